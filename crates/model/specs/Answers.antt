@@ -1,4 +1,40 @@
--- Answers.
+-- "The ten refusals", and how a rule answers.
+-- Assumes nothing.
+use mathlib.Core.Bool.{Bool, true, false}
+use mathlib.Core.List.{List, [], _∷_}
 use Prim.Native.Nat.{ℕ}
+use Rattle.model.specs.declared.Refusal.{Refusal}
+use Rattle.model.specs.declared.Refusal.the-variants.{Setting, Unsound, ShortRow, ManyRecords, AddressRange, NumberEnd, ListFull, DrawsShort, HeapFull, TimersFull}
+
+-- 01's table: the number of each refusal
+abbrev pub numberOf : Refusal → ℕ
+numberOf Setting = 1
+numberOf Unsound = 2
+numberOf ShortRow = 3
+numberOf ManyRecords = 4
+numberOf AddressRange = 5
+numberOf NumberEnd = 6
+numberOf ListFull = 7
+numberOf DrawsShort = 8
+numberOf HeapFull = 9
+numberOf TimersFull = 10
+
+-- a rule's answer: a refusal, or what it gives and the draws that are left
 pub data Answer (B : Type 0) : Type 0 where
-  done : B → Answer B
+  refused : Refusal → Answer B
+  done : B → List ℕ → Answer B
+
+-- "Then the rules run in order, the first of 6 to 10 that they reach is given, and nothing is kept."
+abbrev pub andThen : {B C : Type 0} → Answer B → (B → List ℕ → Answer C) → Answer C
+andThen (refused r) k = refused r
+andThen (done b ds) k = k b ds
+
+-- A choice between answers. It is shut, so that a proof finds its parts: the laws of a rule go through it by one lemma
+unfoldable pub when : {B : Type 0} → Bool → Answer B → Answer B → Answer B
+when true x y = x
+when false x y = y
+
+-- "a draw is needed past the end of the draws": refusal 8
+abbrev pub draw : {B : Type 0} → List ℕ → (ℕ → List ℕ → Answer B) → Answer B
+draw [] k = refused DrawsShort
+draw (d ∷ ds) k = k d ds

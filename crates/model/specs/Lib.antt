@@ -1,1 +1,10 @@
+-- Paper 01's rules, in its order: numbers, refusals, sizes, heap, choosing, list and order, handler, detector, soundness, calls.
+pub mod Rows
+pub mod Bounds
 pub mod Answers
+pub mod Words
+pub mod Limit
+pub mod Size
+pub mod IPv4
+pub mod Heap
+pub mod Choose

@@ -1,2 +1,62 @@
-// The model is definitions alone, in specs/. A crate has a source file, so this one stands here.
-pub const RULES: u64 = 1;
+// The words that the rules and the code share: whatever holds no address. The rules themselves stand in specs/.
+ghost use mathlib.Core.Path.{_≡_};
+ghost use Rattle.model.specs.Answers.{numberOf};
+
+// What a list says of a peer. Alive comes first: it is the state of an unused place.
+pub enum State {
+    Alive,
+    Pending,
+    Suspected,
+}
+
+// The ten refusals, in the order of their numbers.
+pub enum Refusal {
+    Setting,
+    Unsound,
+    ShortRow,
+    ManyRecords,
+    AddressRange,
+    NumberEnd,
+    ListFull,
+    DrawsShort,
+    HeapFull,
+    TimersFull,
+}
+
+// How a call ended: kept, with how many draws it used; kept with nothing to do; or refused.
+pub enum Reply {
+    Done(usize),
+    Already,
+    NotDue,
+    Refused(Refusal),
+}
+
+// What a node is set up with.
+pub struct Settings {
+    pub ping_interval: u32,
+    pub ping_timeout: u32,
+    pub ping_req_timeout: u32,
+    pub suspect_timeout: u32,
+    pub ping_req_group_size: usize,
+    pub send_constant: usize,
+    pub max_selected: usize,
+    pub max_size: usize,
+}
+
+// A refusal's number in the table of refusals.
+pub fn refusal_number(refusal: Refusal) -> u8
+    ensures { λ r. ⌜ r ≡ numberOf refusal ⌝ }
+{
+    match refusal {
+        Refusal::Setting => 1,
+        Refusal::Unsound => 2,
+        Refusal::ShortRow => 3,
+        Refusal::ManyRecords => 4,
+        Refusal::AddressRange => 5,
+        Refusal::NumberEnd => 6,
+        Refusal::ListFull => 7,
+        Refusal::DrawsShort => 8,
+        Refusal::HeapFull => 9,
+        Refusal::TimersFull => 10,
+    }
+}
