@@ -138,12 +138,12 @@ module _ {A : Type 0} (address : Address A) where
   choose t alive deceased = rounds message-records t (begin alive deceased)
 
   -- "D is the number of the first matching entry in the deceased heap's array order."
-  abbrev pub deathOf : A → Event A → Option ℕ
-  deathOf a Nothing = none
-  deathOf a (Joined f s n) = none
-  deathOf a (Recovered f s n) = none
-  deathOf a (Suspected f s n) = none
-  deathOf a (Deceased f s n) = pick (address .same a s) (some n) none
+  abbrev pub deathIn : A → Event A → Option ℕ
+  deathIn a Nothing = none
+  deathIn a (Joined f s n) = none
+  deathIn a (Recovered f s n) = none
+  deathIn a (Suspected f s n) = none
+  deathIn a (Deceased f s n) = pick (address .same a s) (some n) none
 
   unfoldable pub orElse : Option ℕ → Option ℕ → Option ℕ
   orElse none y = y
@@ -151,7 +151,7 @@ module _ {A : Type 0} (address : Address A) where
 
   unfoldable pub death : A → List (Entry A) → Option ℕ
   death a [] = none
-  death a (e ∷ es) = orElse (deathOf a (e .gossip .event)) (death a es)
+  death a (e ∷ es) = orElse (deathIn a (e .gossip .event)) (death a es)
 
   -- a gossip as it comes into a heap: not sent yet, with its size
   abbrev pub entryOf : Gossip A → Entry A

@@ -2,20 +2,16 @@
 -- the entry's rank, its sends: fewer is nearer the top.
 -- Assumes nothing.
 use mathlib.Core.Path.{_≡_}
-use mathlib.Core.Bool.{Bool, true, false}
+use mathlib.Core.Bool.{Bool, true, false, _&&_}
 use mathlib.Core.List.{List, [], _∷_, _++_}
 use Prim.Native.Nat.{ℕ, zero, suc, _+_, _-_, _*_, _/_, _≤_, _<_}
 use lib.Dec.{eqb, ltb, leb}
 use lib.ListN.{length, getD, set, take}
-use Rattle.model.specs.Rows.{pick}
+use Rattle.model.specs.Rows.{pick, swap}
 
 -- the place above a place
 abbrev pub parent : ℕ → ℕ
 parent p = (p - 1) / 2
-
--- the entries at two places change places
-unfoldable pub swap : {A : Type 0} → A → List A → ℕ → ℕ → List A
-swap d xs p q = set (set xs p (getD xs q d)) q (getD xs p d)
 
 -- "An entry climbs to its parent place while it has fewer sends than the parent, strictly": n steps at most
 unfoldable pub climbIn : {A : Type 0} → A → (A → ℕ) → ℕ → List A → ℕ → List A
@@ -80,14 +76,10 @@ rank d key xs i = key (getD xs i d)
 unfoldable pub Ordered : (ℕ → ℕ) → ℕ → Type 0
 Ordered K len = (i : ℕ) → 0 < i → i < len → K (parent i) ≤ K i
 
-abbrev pub both : Bool → Bool → Bool
-both true b = b
-both false b = false
-
 -- a test passes at every number below n
 unfoldable pub allBelow : (ℕ → Bool) → ℕ → Bool
 allBelow f zero = true
-allBelow f (suc n) = both (allBelow f n) (f n)
+allBelow f (suc n) = allBelow f n && f n
 
 -- the same as `Ordered`, to be tested: place 0 is its own parent, and passes
 abbrev pub inOrder : {A : Type 0} → A → (A → ℕ) → List A → ℕ → Bool

@@ -8,3 +8,9 @@ pub mod Size
 pub mod IPv4
 pub mod Heap
 pub mod Choose
+pub mod Members
+pub mod Node
+pub mod Handler
+pub mod Detector
+pub mod Sound
+pub mod Calls

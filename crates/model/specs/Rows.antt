@@ -33,7 +33,7 @@ module _ {A : Type 0} where
   padTo n blank l = l ++ replicate (n - length l) blank
 
   -- what stands at two places changes places
-  abbrev pub swap : A → List A → ℕ → ℕ → List A
+  unfoldable pub swap : A → List A → ℕ → ℕ → List A
   swap blank l i j = set (set l i (getD l j blank)) j (getD l i blank)
 
   -- a test passes at each element

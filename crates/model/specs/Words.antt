@@ -6,7 +6,8 @@ use mathlib.Core.Option.{Option, none, some}
 use Prim.Native.Nat.{ℕ}
 use lib.Dec.{eqb}
 use Rattle.model.specs.declared.State.{State}
-use Rattle.model.specs.declared.State.the-variants.{Alive}
+use Rattle.model.specs.declared.State.the-variants.{Alive, Pending}
+use Rattle.model.specs.declared.State.the-variants as state
 use Rattle.model.specs.Rows.{Test}
 
 -- What the rules ask of an address: a test for equality, the address of an unused place, the range, and the length of its text
@@ -71,6 +72,11 @@ module _ (A : Type 0) where
     pub target : A
     pub action : Action
     pub gossip : List Gossip
+
+abbrev pub isAlive : State → Bool
+isAlive Alive = true
+isAlive Pending = false
+isAlive state.Suspected = false
 
 module _ {A : Type 0} where
   -- "a gossip record of no event"

@@ -1,0 +1,135 @@
+-- "Detector": what a step and an ended timer do.
+-- Assumes nothing.
+use mathlib.Core.Bool.{Bool, true, false}
+use mathlib.Core.List.{List, [], _∷_, _++_}
+use mathlib.Core.Option.{Option, none, some}
+use Prim.Native.Nat.{ℕ, zero, suc, _+_, _-_, _%_}
+use lib.ListN.{length, getD}
+use lib.Dec.{leb}
+use Rattle.model.specs.declared.Settings.{Settings}
+use Rattle.model.specs.declared.State.{State}
+use Rattle.model.specs.declared.State.the-variants as state
+use Rattle.model.specs.declared.Refusal.the-variants.{TimersFull}
+use Rattle.model.specs.Rows.{pick, removeAt}
+use Rattle.model.specs.Bounds.{ticks, timer-places}
+use Rattle.model.specs.Answers.{Answer, done, refused, andThen, when}
+use Rattle.model.specs.Words.{Address, isAlive, Suspected, Deceased, Gossip, Action, Ping, PingReq, Message, Timer, Wait, WaitState, SendingPing, WaitingForPingAck, SendingPingReq, WaitingForPingReqAck, Declaring, noTimer}
+use Rattle.model.specs.Members as list
+use Rattle.model.specs.Node.{Node, Out, Effect, Spread, withMembers, withTimers, quiet, emitAlive, emitDeceased, lists, numbered, stateOf, change, leave, spread}
+use Rattle.model.specs.Handler.{says}
+
+-- "A wait is over when now less start, modulo 2^32, is at least the wait."
+unfoldable pub isOver : ℕ → ℕ → ℕ → Bool
+isOver wait now since = leb wait ((now + ticks - since) % ticks)
+
+module _ {A : Type 0} where
+  -- how long each state waits; "SendingPingReq at once", "Declaring at once"
+  abbrev pub waitOf : Settings → WaitState A → ℕ
+  waitOf c SendingPing = c .«ping_interval»
+  waitOf c (WaitingForPingAck a n) = c .«ping_timeout»
+  waitOf c (SendingPingReq a n) = 0
+  waitOf c (WaitingForPingReqAck a n) = c .«ping_req_timeout»
+  waitOf c (Declaring a n) = 0
+
+  unfoldable pub due : Settings → Wait A → ℕ → Bool
+  due c w now = isOver (waitOf c (w .state)) now (w .since)
+
+  -- "each new state is entered at now"
+  abbrev pub enters : WaitState A → ℕ → Wait A
+  enters st now = record { state = st; since = now }
+
+-- what a step does: its effect, and the wait record after it
+pub record Stepped (A : Type 0) : Type 0 where
+  pub effect : Effect A
+  pub wait : Wait A
+
+module _ {A : Type 0} (address : Address A) where
+  -- nothing but the wait record changes
+  abbrev pub moves : WaitState A → ℕ → Node A → Stepped A
+  moves st now s = record { effect = record { node = s; messages = []; events = [] }; wait = enters st now }
+
+  -- "if one: Ping, set Pending, wait for PingAck; if none: the gossip is spent but not written, state kept, tick renewed"
+  unfoldable pub pinged : ℕ → List (Gossip A) → Node A → List A → Stepped A
+  pinged now gs s [] = moves SendingPing now s
+  pinged now gs s (a ∷ rest) =
+      record {
+        effect =
+            record {
+              node = change address a state.Pending (numbered address a s) s;
+              messages = record { target = a; action = Ping (s .own) none; gossip = gs } ∷ [];
+              events = [];
+            };
+        wait = enters (WaitingForPingAck a (numbered address a s)) now;
+      }
+
+  -- "SendingPing after ping_interval: choose gossip, then pick 1"
+  unfoldable pub sendPing : ℕ → Node A → List ℕ → Answer (Stepped A)
+  sendPing now s ds =
+      let c = spread address s in
+      andThen (list.pickFrom (address .same) (address .blank) (s .own) none 1 (s .members) ds) λ p rest.
+      done (pinged now (c .gossip) (withMembers (c .node) (p .members)) (p .picks)) rest
+
+  -- "Alive or absent gives SendingPing, else SendingPingReq for the first and Declaring for the second"
+  unfoldable pub heard : A → Node A → Bool
+  heard a s = pick (lists address a s) (isAlive (stateOf address a s)) true
+
+  unfoldable pub waited : A → WaitState A → ℕ → Node A → List ℕ → Answer (Stepped A)
+  waited a next now s ds = done (moves (pick (heard a s) SendingPing next) now s) ds
+
+  -- "choose gossip for each": a PingReq goes to each peer of the group, in the order picked
+  abbrev pub askEach : A → List A → Node A → List (Message A) → Effect A
+  askEach suspect [] s sent = record { node = s; messages = sent; events = [] }
+  askEach suspect (a ∷ rest) s sent =
+      let c = spread address s in
+      askEach suspect rest (c .node) (sent ++ (record { target = a; action = PingReq (s .own) suspect; gossip = c .gossip } ∷ []))
+
+  -- "update to Suspected at the remembered number, emit even if absent"
+  unfoldable pub suspect : A → ℕ → Node A → List ℕ → Answer (Out A)
+  suspect a n s ds = emitAlive address (says address Suspected s a n) (change address a state.Suspected n s) ds
+
+  -- "pick the group without the suspect, choose gossip for each, wait for PingReqAck"
+  unfoldable pub sendPingReq : A → ℕ → ℕ → Node A → List ℕ → Answer (Stepped A)
+  sendPingReq a n now s ds =
+      andThen (suspect a n s ds) λ o rest.
+      andThen
+      (list.pickFrom (address .same) (address .blank) (s .own) (some a) (s .settings .«ping_req_group_size») (o .node .members) rest)
+      λ p rest₂.
+      let e = askEach a (p .picks) (withMembers (o .node) (p .members)) [] in
+      done
+      (record {
+        effect = record { node = e .node; messages = e .messages; events = o .said };
+        wait = enters (WaitingForPingReqAck a n) now;
+      })
+      rest₂
+
+  -- "Declaring at once: start a timer, SendingPing." Refusal 10
+  unfoldable pub declare : A → ℕ → ℕ → Node A → List ℕ → Answer (Stepped A)
+  declare a n now s ds =
+      when (leb timer-places (length (s .timers)))
+      (refused TimersFull)
+      (done (moves SendingPing now (withTimers s (s .timers ++ (record { addr = a; number = n; since = now } ∷ [])))) ds)
+
+  -- a step that is due, by the state
+  abbrev pub step : WaitState A → ℕ → Node A → List ℕ → Answer (Stepped A)
+  step SendingPing now s ds = sendPing now s ds
+  step (WaitingForPingAck a n) now s ds = waited a (SendingPingReq a n) now s ds
+  step (SendingPingReq a n) now s ds = sendPingReq a n now s ds
+  step (WaitingForPingReqAck a n) now s ds = waited a (Declaring a n) now s ds
+  step (Declaring a n) now s ds = declare a n now s ds
+
+  -- "the earliest started that is over": its place in the row
+  unfoldable pub firstOver : ℕ → ℕ → List (Timer A) → Option ℕ
+  firstOver wait now [] = none
+  firstOver wait now (t ∷ ts) = elim (isOver wait now (t .since)) [ true ↦ some 0 | false ↦ onward (firstOver wait now ts) ]
+    where
+      onward : Option ℕ → Option ℕ
+      onward none = none
+      onward (some i) = some (suc i)
+
+  -- "its address is removed if listed, Deceased emitted at its number, its place reused"
+  unfoldable pub ended : Timer A → Node A → List ℕ → Answer (Out A)
+  ended t s ds =
+      emitDeceased address (says address Deceased s (t .addr) (t .number)) (pick (lists address (t .addr) s) (leave address (t .addr) s) s) ds
+
+  unfoldable pub endAt : ℕ → Node A → List ℕ → Answer (Out A)
+  endAt i s ds = ended (getD (s .timers) i (noTimer address)) (withTimers s (removeAt (s .timers) i)) ds

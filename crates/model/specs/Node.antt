@@ -1,0 +1,177 @@
+-- A node: its settings, its own address, the list, both heaps and the timers. And what a rule leaves.
+-- Assumes nothing.
+use mathlib.Core.Bool.{Bool, true, false}
+use mathlib.Core.List.{List, [], _∷_, _++_}
+use mathlib.Core.Option.{Option, none, some}
+use Prim.Native.Nat.{ℕ, _+_, _-_}
+use lib.ListN.{length, take}
+use lib.Dec.{eqb, leb}
+use Rattle.model.specs.declared.State.{State}
+use Rattle.model.specs.declared.State.the-variants.{Alive}
+use Rattle.model.specs.declared.Settings.{Settings}
+use Rattle.model.specs.declared.Refusal.the-variants.{NumberEnd, HeapFull}
+use Rattle.model.specs.Rows.{pick, padTo}
+use Rattle.model.specs.Bounds.{list-places, heap-places, timer-places, last-number}
+use Rattle.model.specs.Answers.{Answer, done, refused, andThen, when}
+use Rattle.model.specs.Words.{Address, Gossip, Entry, unused, sendsOf, Timer, Member, Message, Joined, Deceased, noMember, noTimer}
+use Rattle.model.specs.Limit.{limitOf}
+use Rattle.model.specs.Heap.{push}
+use Rattle.model.specs.Choose.{choose, termsOf, entryOf, death}
+use Rattle.model.specs.Members as list
+
+pub record Node (A : Type 0) : Type 0 where
+  pub settings : Settings
+  pub own : A
+  pub members : list.Members A
+  pub alive : List (Entry A)
+  pub deceased : List (Entry A)
+  pub timers : List (Timer A)
+
+-- what a rule leaves: the node, and the events that it reported, each as the gossip record that holds it
+pub record Out (A : Type 0) : Type 0 where
+  pub node : Node A
+  pub said : List (Gossip A)
+
+-- what a call does: the node, the messages that are sent and the events that are reported, in order
+pub record Effect (A : Type 0) : Type 0 where
+  pub node : Node A
+  pub messages : List (Message A)
+  pub events : List (Gossip A)
+
+-- a gossip was chosen for a message
+pub record Spread (A : Type 0) : Type 0 where
+  pub node : Node A
+  pub gossip : List (Gossip A)
+
+-- "a number plus one is needed and the number is 2^64 − 1": refusal 6
+unfoldable pub plusOne : {B : Type 0} → ℕ → (ℕ → Answer B) → Answer B
+plusOne n k = when (leb last-number n) (refused NumberEnd) (k (n + 1))
+
+-- "D + 1 or 0"
+unfoldable pub deathPlusOne : {B : Type 0} → Option ℕ → (ℕ → Answer B) → Answer B
+deathPlusOne none k = k 0
+deathPlusOne (some d) k = plusOne d k
+
+module _ {A : Type 0} where
+  abbrev pub withMembers : Node A → list.Members A → Node A
+  withMembers s m =
+      record { settings = s .settings; own = s .own; members = m; alive = s .alive; deceased = s .deceased; timers = s .timers }
+
+  abbrev pub withHeaps : Node A → List (Entry A) → List (Entry A) → Node A
+  withHeaps s alive deceased =
+      record { settings = s .settings; own = s .own; members = s .members; alive = alive; deceased = deceased; timers = s .timers }
+
+  abbrev pub withTimers : Node A → List (Timer A) → Node A
+  withTimers s timers =
+      record { settings = s .settings; own = s .own; members = s .members; alive = s .alive; deceased = s .deceased; timers = timers }
+
+  -- nothing is reported
+  unfoldable pub quiet : Node A → List ℕ → Answer (Out A)
+  quiet s ds = done (record { node = s; said = [] }) ds
+
+  -- one rule after another, with all that was reported
+  unfoldable pub andMore : Answer (Out A) → (Node A → List ℕ → Answer (Out A)) → Answer (Out A)
+  andMore x k = andThen x λ o rest. andThen (k (o .node) rest) λ p rest₂. done (record { node = p .node; said = o .said ++ p .said }) rest₂
+
+module _ {A : Type 0} (address : Address A) where
+  -- an event is about to be pushed: the heap with it, or refusal 9
+  unfoldable pub pushed : Gossip A → List (Entry A) → List ℕ → Answer (List (Entry A))
+  pushed g heap ds =
+      when (leb heap-places (length heap)) (refused HeapFull) (done (push unused sendsOf heap (entryOf address g)) ds)
+
+  -- "an emitted event is pushed to its heap, then reported"
+  unfoldable pub emitAlive : Gossip A → Node A → List ℕ → Answer (Out A)
+  emitAlive g s ds = andThen (pushed g (s .alive) ds) λ h rest. done (record { node = withHeaps s h (s .deceased); said = g ∷ [] }) rest
+
+  unfoldable pub emitDeceased : Gossip A → Node A → List ℕ → Answer (Out A)
+  emitDeceased g s ds = andThen (pushed g (s .deceased) ds) λ h rest. done (record { node = withHeaps s (s .alive) h; said = g ∷ [] }) rest
+
+  abbrev pub lists : A → Node A → Bool
+  lists a s = list.listed (address .same) a (s .members .table)
+
+  abbrev pub numbered : A → Node A → ℕ
+  numbered a s = list.held (address .same) a (s .members .table)
+
+  abbrev pub stateOf : A → Node A → State
+  stateOf a s = list.heldState (address .same) a (s .members .table)
+
+  -- D of an address
+  abbrev pub heldDeath : A → Node A → Option ℕ
+  heldDeath a s = death address a (s .deceased)
+
+  -- the record of a listed address is replaced
+  unfoldable pub change : A → State → ℕ → Node A → Node A
+  change a st n s = withMembers s (list.update (address .same) (record { addr = a; state = st; number = n }) (s .members))
+
+  unfoldable pub leave : A → Node A → Node A
+  leave a s = withMembers s (list.remove (address .same) a (s .members))
+
+  -- gossip is chosen for a message, at as many members as are listed
+  unfoldable pub spread : Node A → Spread A
+  spread s =
+      let c = choose address
+      (termsOf (s .settings .«max_selected») (s .settings .«max_size») (limitOf (length (s .members .table)) (s .settings .«send_constant»)))
+      (s .alive)
+      (s .deceased) in
+      record { node = withHeaps s (c .alive) (c .deceased); gossip = c .chosen }
+
+-- A node as it is kept: rows of a fixed number of places, and how many of them are used
+pub record Row (B : Type 0) : Type 0 where
+  pub places : List B
+  pub used : ℕ
+
+pub record Stored (A : Type 0) : Type 0 where
+  pub settings : Settings
+  pub own : A
+  pub table : List (Member A)
+  pub order : List A
+  pub listed : ℕ
+  pub position : ℕ
+  pub alive : Row (Entry A)
+  pub deceased : Row (Entry A)
+  pub timers : Row (Timer A)
+
+abbrev pub inUse : {B : Type 0} → Row B → List B
+inUse r = take (r .used) (r .places)
+
+abbrev pub rowOf : {B : Type 0} → ℕ → B → List B → Row B
+rowOf places blank l = record { places = padTo places blank l; used = length l }
+
+-- the node that the rows hold
+unfoldable pub loaded : {A : Type 0} → Stored A → Node A
+loaded s =
+    record {
+      settings = s .settings;
+      own = s .own;
+      members = record { table = take (s .listed) (s .table); order = take (s .listed) (s .order); position = s .position };
+      alive = inUse (s .alive);
+      deceased = inUse (s .deceased);
+      timers = inUse (s .timers);
+    }
+
+-- the rows that hold a node: every unused place is zero
+unfoldable pub stored : {A : Type 0} → Address A → Node A → Stored A
+stored address s =
+    record {
+      settings = s .settings;
+      own = s .own;
+      table = padTo list-places (noMember address) (s .members .table);
+      order = padTo list-places (address .blank) (s .members .order);
+      listed = length (s .members .table);
+      position = s .members .position;
+      alive = rowOf heap-places unused (s .alive);
+      deceased = rowOf heap-places unused (s .deceased);
+      timers = rowOf timer-places (noTimer address) (s .timers);
+    }
+
+-- "it lists that address Alive at place 0, all else empty"
+unfoldable pub fresh : {A : Type 0} → Settings → A → ℕ → Node A
+fresh settings own n =
+    record {
+      settings = settings;
+      own = own;
+      members = record { table = record { addr = own; state = Alive; number = n } ∷ []; order = own ∷ []; position = 0 };
+      alive = [];
+      deceased = [];
+      timers = [];
+    }
