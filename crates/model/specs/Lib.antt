@@ -14,3 +14,9 @@ pub mod Handler
 pub mod Detector
 pub mod Sound
 pub mod Calls
+-- The laws that proofs cite.
+pub mod After
+pub mod Counts
+pub mod Pad
+pub mod Whole
+pub mod Distinct
