@@ -20,3 +20,5 @@ pub mod Counts
 pub mod Pad
 pub mod Whole
 pub mod Distinct
+pub mod Held
+pub mod Picking
