@@ -1,0 +1,4 @@
+pub mod Moments
+pub mod Ledger
+pub mod Did
+pub mod Rules
