@@ -10,6 +10,7 @@ use lib.Dec.{ltb, leb}
 use borrow.Author.Tests.{leb-true, lt-ltb, le-ltb}
 use Rattle.model.specs.declared.State.the-variants.{Alive}
 use Rattle.model.specs.Rows.{one, pick, has, occurs}
+use Rattle.model.specs.Bools.{and-split}
 use Rattle.model.specs.Words.{Address, Lawful, Member, Deceased}
 use Rattle.model.specs.Members.{Members, addrs, listed, held, added, remove, update, strike, put}
 use Rattle.model.specs.Node.{Node, Out, lists, numbered}
@@ -17,10 +18,6 @@ use Rattle.model.specs.Whole.{Whole, added-whole, remove-whole, update-whole, s
 use Rattle.model.specs.Held.{has-append, held-old, held-new, has-put, has-erase, held-put, held-put-other, held-strike}
 use Rattle.history.specs.Moments.{Deed, Told, Moment, momentOf}
 use Rattle.history.specs.Ledger.{Tally, inside, comes, goes, asks, askedAt, pings, reported, step}
-
-pub and-split : (x y : Bool) → (x && y) ≡ true → (x ≡ true) × (y ≡ true)
-and-split true y e = (refl, e)
-and-split false y e = (cc, cc)
 
 -- the ledger keeps pace: l and l′ say whether the address is listed before and after, g whether it goes and c whether it comes
 counts : (l l′ g c : Bool) (e d : ℕ) → e ≡ d + one l → (l ≡ true → l′ ≡ not g) → (l ≡ false → l′ ≡ c)

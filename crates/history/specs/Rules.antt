@@ -13,6 +13,7 @@ use Rattle.model.specs.declared.State.{State}
 use Rattle.model.specs.declared.State.the-variants as state
 use Rattle.model.specs.Rows.{pick, removeAt}
 use Rattle.model.specs.Answers.{Answer, done, refused, when, andThen}
+use Rattle.model.specs.Bools.{and-split}
 use Rattle.model.specs.After.{After, halts, gives, after-when, after-draw, after-then}
 use Rattle.model.specs.Words.{Address, Lawful, isAlive, Member, Event, Nothing, Joined, Recovered, Suspected, Deceased, Gossip, Entry, Timer, noTimer}
 use Rattle.model.specs.Members.{Members, added, add, remove, update}
@@ -22,7 +23,7 @@ use Rattle.model.specs.Detector.{suspect, ended, endAt}
 use Rattle.model.specs.Whole.{Whole}
 use Rattle.history.specs.Moments.{Deed, Told, Sender, Added, Pinged, Asked, Ended, Other, endedDeed}
 use Rattle.history.specs.Ledger.{comes, goes, asks, pings, reported}
-use Rattle.history.specs.Did.{Did, and-split, stay, put-did, came-did, gone-did}
+use Rattle.history.specs.Did.{Did, stay, put-did, came-did, gone-did}
 
 pub never : {B : Type 0} → _≡_ {A = Bool} false true → B
 never e = let z : _≡_ {A = ℕ} 0 1 = cc in absurd (omega arith)

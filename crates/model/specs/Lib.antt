@@ -15,6 +15,7 @@ pub mod Detector
 pub mod Sound
 pub mod Calls
 -- The laws that proofs cite.
+pub mod Bools
 pub mod After
 pub mod Counts
 pub mod Pad
@@ -22,3 +23,4 @@ pub mod Whole
 pub mod Distinct
 pub mod Held
 pub mod Picking
+pub mod Good
