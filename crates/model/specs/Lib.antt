@@ -7,6 +7,8 @@ pub mod Limit
 pub mod LimitLaws
 pub mod Size
 pub mod IPv4
+pub mod TextLaws
+pub mod SizeLaws
 pub mod Heap
 pub mod Choose
 pub mod Members
