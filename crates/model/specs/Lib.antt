@@ -4,11 +4,8 @@ pub mod Bounds
 pub mod Answers
 pub mod Words
 pub mod Limit
-pub mod LimitLaws
 pub mod Size
 pub mod IPv4
-pub mod TextLaws
-pub mod SizeLaws
 pub mod Heap
 pub mod Choose
 pub mod Members
@@ -23,3 +20,13 @@ pub mod Counts
 pub mod Pad
 pub mod Whole
 pub mod Distinct
+pub mod LimitLaws
+pub mod TextLaws
+pub mod SizeLaws
+pub mod HeapSwaps
+pub mod HeapSteps
+pub mod HeapOrder
+pub mod HeapKeeps
+pub mod HeapLaws
+pub mod HeapTests
+pub mod HeapFrames
