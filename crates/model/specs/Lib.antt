@@ -24,3 +24,13 @@ pub mod Distinct
 pub mod Held
 pub mod Picking
 pub mod Good
+pub mod LimitLaws
+pub mod TextLaws
+pub mod SizeLaws
+pub mod HeapSwaps
+pub mod HeapSteps
+pub mod HeapOrder
+pub mod HeapKeeps
+pub mod HeapLaws
+pub mod HeapTests
+pub mod HeapFrames
