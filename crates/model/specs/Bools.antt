@@ -3,7 +3,9 @@
 use mathlib.Core.Path.{_≡_, refl, ap, sym, _∙_}
 use mathlib.Core.Bool.{Bool, true, false, not, _&&_, _||_}
 use mathlib.Core.List.{List, [], _∷_, _++_}
+use mathlib.Core.Option.{Option, none, some}
 use Prim.Native.Nat.{ℕ, zero, suc}
+use native.Mathlib.Omega.{arith}
 use lib.ListN.{length, take, drop, replicate}
 use Rattle.model.specs.Rows.{every}
 
@@ -13,6 +15,15 @@ and-split false y e = (cc, cc)
 
 pub and-join : {x y : Bool} → x ≡ true → y ≡ true → (x && y) ≡ true
 and-join p q = rw (p, q)
+
+-- what is missing is not there
+there : {B : Type 0} → Option B → ℕ
+there none = 0
+there (some b) = 1
+
+pub none-some : {B C : Type 0} {b : B} → _≡_ {A = Option B} none (some b) → C
+unfolding there
+none-some e = absurd (omega (arith, ap there e))
 
 module _ {A : Type 0} (f : A → Bool) where
   pub every-replicate : (n : ℕ) (x : A) → f x ≡ true → every f (replicate n x) ≡ true
@@ -34,3 +45,8 @@ module _ {A : Type 0} (f : A → Bool) where
   every-is x h (y ∷ l) p =
       let r = and-split (f y) (every f l) p in
       ap (λ (z : A). z ∷ l) (h y (r .0)) ∙ ap (λ (m : List A). x ∷ m) (every-is x h l (r .1))
+
+-- what passes one test passes another
+pub every-weaken : {A : Type 0} (f g : A → Bool) → ((x : A) → f x ≡ true → g x ≡ true) → (l : List A) → every f l ≡ true → every g l ≡ true
+every-weaken f g h [] p = refl
+every-weaken f g h (x ∷ l) p = let r = and-split (f x) (every f l) p in and-join (h x (r .0)) (every-weaken f g h l (r .1))

@@ -34,3 +34,5 @@ pub mod HeapKeeps
 pub mod HeapLaws
 pub mod HeapTests
 pub mod HeapFrames
+pub mod ChooseLaws
+pub mod Chosen
