@@ -36,3 +36,4 @@ pub mod HeapTests
 pub mod HeapFrames
 pub mod ChooseLaws
 pub mod Chosen
+pub mod Keeps
