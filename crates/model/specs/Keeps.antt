@@ -61,7 +61,7 @@ module _ {A : Type 0} (address : Address A) where
       }))
 
   -- the parts of a good node that a rule replaces
-  with-members : (s : Node A) (m : Members A) → Good address s → Whole (address .same) m → every (address .valid) (addrs (m .table)) ≡ true → Good address (withMembers s m)
+  pub with-members : (s : Node A) (m : Members A) → Good address s → Whole (address .same) m → every (address .valid) (addrs (m .table)) ≡ true → Good address (withMembers s m)
   with-members s m g w v =
       record { settings = g .settings; own = g .own; whole = w; valid = v; alive = g .alive; deceased = g .deceased; few = g .few; timers = g .timers }
 
@@ -82,10 +82,10 @@ module _ {A : Type 0} (address : Address A) where
   abbrev pub KeepsOut : Node A → Answer (Out A) → Type 0
   KeepsOut s x = After (λ o. Keeps s (o .node)) x
 
-  same-node : {s : Node A} → Good address s → Keeps s s
+  pub same-node : {s : Node A} → Good address s → Keeps s s
   same-node g = record { good = g; own = refl; settings = refl }
 
-  keeps-trans : {s₁ s₂ s₃ : Node A} → Keeps s₁ s₂ → Keeps s₂ s₃ → Keeps s₁ s₃
+  pub keeps-trans : {s₁ s₂ s₃ : Node A} → Keeps s₁ s₂ → Keeps s₂ s₃ → Keeps s₁ s₃
   keeps-trans p q = record { good = q .good; own = q .own ∙ p .own; settings = q .settings ∙ p .settings }
 
   pub emit-alive : (g : Gossip A) (s s′ : Node A) (ds : List ℕ) → Fits AliveKind g → Keeps s s′ → KeepsOut s (emitAlive address g s′ ds)
@@ -234,7 +234,7 @@ module _ {A : Type 0} (address : Address A) where
     item-keeps (Deceased f b n) s ds g v = deceased-keeps b n s ds g (subject-valid f b n (Deceased f b n) refl refl v)
 
     -- one rule after another
-    more-keeps : {s : Node A} {x : Answer (Out A)} (k : Node A → List ℕ → Answer (Out A)) → KeepsOut s x
+    pub more-keeps : {s : Node A} {x : Answer (Out A)} (k : Node A → List ℕ → Answer (Out A)) → KeepsOut s x
         → ((s′ : Node A) (ds : List ℕ) → Good address s′ → KeepsOut s′ (k s′ ds)) → KeepsOut s (andMore x k)
     unfolding andMore
     more-keeps k h f = after-then h (λ o rest p. after-then (f (o .node) rest (p .good)) (λ o₂ rest₂ q. gives (keeps-trans p q)))

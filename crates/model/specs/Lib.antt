@@ -37,3 +37,4 @@ pub mod HeapFrames
 pub mod ChooseLaws
 pub mod Chosen
 pub mod Keeps
+pub mod KeepsCalls
