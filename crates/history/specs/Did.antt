@@ -61,8 +61,8 @@ module _ {A : Type 0} (address : Address A) (a : A) where
   pub record Fine (own : A) (t : Tally) (m : Moment A) : Type 0 where
     -- while the address stays listed its number never falls, save at the ping-request step for it
     pub rises : inside t ≡ true → inside (step address a m t) ≡ true → asks address a (m .deed) ≡ false → numbered address a (m .before) ≤ numbered address a (m .after)
-    -- which writes back the number that it names
-    pub back : inside t ≡ true → asks address a (m .deed) ≡ true → numbered address a (m .after) ≡ askedAt address a (m .deed)
+    -- which writes back the number taken with the ping
+    pub back : inside t ≡ true → asks address a (m .deed) ≡ true → numbered address a (m .after) ≡ t .taken
     -- a Deceased gossip that removes a peer carries a number no lower than any reported for it
     pub bound : (f : A) (n : ℕ) → m .deed ≡ Told (Deceased f a n) → address .same own a ≡ false → inside t ≡ true → goes address a (m .deed) (m .before) ≡ true → t .top ≤ n
     -- nor lower than the held one: an older message removes nobody
@@ -78,9 +78,9 @@ module _ {A : Type 0} (address : Address A) (a : A) where
         | false ↦ λ e. le-ltb (t .departures) (t .entries) (omega arith)
       ]) (k .count)
 
-  pub next : (own : A) (s : Node A) (d : Deed A) (o : Out A) (t : Tally) → Kept own s t → Did s d o
+  pub next : (own : A) (s : Node A) (d : Deed A) (o : Out A) (t : Tally) → Kept own s t → (asks address a d ≡ true → askedAt address a d ≡ t .taken) → Did s d o
       → Kept own (o .node) (step address a (momentOf d s o) t) × Fine own t (momentOf d s o)
-  next own s d o t k f =
+  next own s d o t k tk f =
       let i : inside t ≡ lists address a s = inside-is k in
       let kept : Kept own (o .node) (step address a (momentOf d s o) t) =
       record {
@@ -95,7 +95,7 @@ module _ {A : Type 0} (address : Address A) (a : A) where
         kept,
         record {
           rises = λ p q n. f .rises (sym i ∙ p) (sym (inside-is kept) ∙ q) n;
-          back = λ p q. f .back (sym i ∙ p) q;
+          back = λ p q. f .back (sym i ∙ p) q ∙ tk q;
           bound = λ g n e q p h. omega (arith, k .low (sym i ∙ p) q, older g n e h);
           no-older = older;
           before = i;

@@ -17,9 +17,10 @@ use Rattle.model.specs.Bools.{and-split}
 use Rattle.model.specs.After.{After, halts, gives, after-when, after-draw, after-then}
 use Rattle.model.specs.Words.{Address, Lawful, isAlive, Member, Event, Nothing, Joined, Recovered, Suspected, Deceased, Gossip, Entry, Timer, noTimer}
 use Rattle.model.specs.Members.{Members, added, add, remove, update}
-use Rattle.model.specs.Node.{Node, Out, withMembers, withHeaps, withTimers, quiet, plusOne, deathPlusOne, pushed, emitAlive, emitDeceased, lists, numbered, stateOf, change, leave}
+use Rattle.model.specs.Node.{Node, Out, withMembers, withHeaps, withTimers, quiet, pushed, emitAlive, emitDeceased, lists, numbered, stateOf, change, leave}
 use Rattle.model.specs.Handler.{says, enter, joinedAt, joined, recovered, believed, suspected, deceased, item, admit, acked}
 use Rattle.model.specs.Detector.{suspect, ended, endAt}
+use Rattle.model.specs.Keeps.{after-plusOne, after-death}
 use Rattle.model.specs.Whole.{Whole}
 use Rattle.history.specs.Moments.{Deed, Told, Sender, Added, Pinged, Asked, Ended, Other, endedDeed}
 use Rattle.history.specs.Ledger.{comes, goes, asks, pings, reported}
@@ -27,16 +28,6 @@ use Rattle.history.specs.Did.{Did, stay, put-did, came-did, gone-did}
 
 pub never : {B : Type 0} → _≡_ {A = Bool} false true → B
 never e = let z : _≡_ {A = ℕ} 0 1 = cc in absurd (omega arith)
-
--- a number plus one, or refusal 6
-after-plusOne : {B : Type 0} {P : B → Type 0} (n : ℕ) {k : ℕ → Answer B} → ((m : ℕ) → After P (k m)) → After P (plusOne n k)
-unfolding plusOne
-after-plusOne n f = after-when (λ _. halts) (λ _. f (n + 1))
-
-after-death : {B : Type 0} {P : B → Type 0} (d : Option ℕ) {k : ℕ → Answer B} → ((n : ℕ) → After P (k n)) → After P (deathPlusOne d k)
-unfolding deathPlusOne
-after-death none f = f 0
-after-death (some d) f = after-plusOne d f
 
 module _ {A : Type 0} (address : Address A) (lawful : Lawful address) (a : A) where
   -- what an event says of the address, and of another
