@@ -4,3 +4,4 @@ pub mod Did
 pub mod Rules
 pub mod Histories
 pub mod Walk
+pub mod WalkSteps

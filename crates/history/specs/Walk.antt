@@ -61,7 +61,7 @@ module _ {A : Type 0} (address : Address A) (a : A) where
   abbrev pub Walks : A → Tally → List (Moment A) → Answer (Out A) → Type 0
   Walks own t ms x = After (λ o. Walked own t ms (o .node)) x
 
-  one-moment : (own : A) (s : Node A) (d : Deed A) (t : Tally) {x : Answer (Out A)} → Kept address a own s t → pings address a d ≡ false → (asks address a d ≡ true → askedAt address a d ≡ t .taken)
+  pub one-moment : (own : A) (s : Node A) (d : Deed A) (t : Tally) {x : Answer (Out A)} → Kept address a own s t → pings address a d ≡ false → (asks address a d ≡ true → askedAt address a d ≡ t .taken)
       → After (Did address a s d) x → Walks own t (moment d s x) x
   one-moment own s d t k pg tk halts = halts
   one-moment own s d t k pg tk (gives {b = o} f) = gives (one-step own s d o t k pg tk f)

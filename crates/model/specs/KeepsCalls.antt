@@ -19,7 +19,7 @@ use Rattle.model.specs.Words.{Address, Lawful, Gossip, Timer, Message, A
 use Rattle.model.specs.Members.{Members, addrs, Picked, pickFrom}
 use Rattle.model.specs.Node.{Node, Out, Effect, withMembers, withTimers, lists, numbered, change, leave, spread, fresh}
 use Rattle.model.specs.Handler.{gossip, admit, acked, answerTo, forwarded, handle}
-use Rattle.model.specs.Detector.{Stepped, pinged, sendPing, waited, askEach, suspect, sendPingReq, declare, step, ended, endAt, firstOver, isOver}
+use Rattle.model.specs.Detector.{Stepped, pinged, sendPing, waited, askEach, suspect, asked, pickGroup, sendPingReq, declare, step, ended, endAt, firstOver, isOver}
 use Rattle.model.specs.Sound.{validGossip}
 use Rattle.model.specs.Calls.{validAction, validOption, validState}
 use Rattle.model.specs.Whole.{Whole}
@@ -106,13 +106,13 @@ module _ {A : Type 0} (address : Address A) (lawful : Lawful address) where
       emit-alive address _ s _ ds (says-suspected address s b n g v) (change-keeps address lawful b state.Suspected n s g)
 
   send-ping-req-keeps : (b : A) (n now : ℕ) (s : Node A) (ds : List ℕ) → Good address s → address .valid b ≡ true → KeepsStep s (sendPingReq address b n now s ds)
-  unfolding sendPingReq
+  unfolding sendPingReq pickGroup asked
   send-ping-req-keeps b n now s ds g v =
       after-then (suspect-keeps b n s ds g v)
       (λ o rest k.
-      after-then (pick-turned (address .same) (address .blank) (s .own) (some b) (s .settings .«ping_req_group_size») (o .node .members) rest (k .good .whole))
+      after-then (pick-turned (address .same) (address .blank) (o .node .own) (some b) (o .node .settings .«ping_req_group_size») (o .node .members) rest (k .good .whole))
       (λ p rest₂ t.
-      let m : Keeps address (o .node) (withMembers (o .node) (p .members)) = turned-keeps (s .own) (o .node) (p .members) (k .good) t in
+      let m : Keeps address (o .node) (withMembers (o .node) (p .members)) = turned-keeps (o .node .own) (o .node) (p .members) (k .good) t in
       gives (keeps-trans address (keeps-trans address k m) (ask-keeps b (p .picks) (withMembers (o .node) (p .members)) [] (m .good)))))
 
   declare-keeps : (b : A) (n now : ℕ) (s : Node A) (ds : List ℕ) → Good address s → address .valid b ≡ true → KeepsStep s (declare address b n now s ds)
