@@ -16,7 +16,9 @@ pub fn text(address: Address) -> String {
 }
 
 pub fn address(text: &str) -> Address {
-    let parsed: SocketAddrV4 = text.parse().expect("the oracle lends canonical addresses only");
+    let parsed: SocketAddrV4 = text
+        .parse()
+        .expect("the oracle lends canonical addresses only");
     u64::from(u32::from(*parsed.ip())) << 16 | u64::from(parsed.port())
 }
 
@@ -70,7 +72,10 @@ pub fn record(event: &Event) -> Record {
 }
 
 fn gossip_out(gossip: &[Gossip]) -> Gossips {
-    gossip.iter().map(|item| item.event.as_ref().map(record)).collect()
+    gossip
+        .iter()
+        .map(|item| item.event.as_ref().map(record))
+        .collect()
 }
 
 pub fn gossip_in(gossip: &Gossips) -> Vec<Gossip> {
@@ -117,11 +122,12 @@ pub fn packet(action: &Action) -> Packet {
 }
 
 pub fn member(member: &pb::Member) -> Member {
-    let state = match NodeState::try_from(member.state).expect("the published code sets known states") {
-        NodeState::Alive => MemberState::Alive,
-        NodeState::Pending => MemberState::Pending,
-        NodeState::Suspected => MemberState::Suspected,
-    };
+    let state =
+        match NodeState::try_from(member.state).expect("the published code sets known states") {
+            NodeState::Alive => MemberState::Alive,
+            NodeState::Pending => MemberState::Pending,
+            NodeState::Suspected => MemberState::Suspected,
+        };
     Member {
         address: address(&member.addr),
         state,

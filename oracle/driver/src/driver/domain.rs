@@ -94,7 +94,14 @@ fn rows_needed(call: &Call) -> Option<Rows> {
 /// Refusals 7, 8 and 9 and the emptied list, read from what the published code did.
 pub fn check_trace(trace: &Trace) -> Result<(), Outside> {
     // An insertion draws a place from the list's length at that time.
-    refuse(7, trace.lent.lengths.iter().any(|length| *length >= MOST_LISTED))?;
+    refuse(
+        7,
+        trace
+            .lent
+            .lengths
+            .iter()
+            .any(|length| *length >= MOST_LISTED),
+    )?;
     refuse(8, trace.lent.ran_out())?;
 
     // In every call all pushes come before the first choice of gossip, so nothing left a heap between them.
@@ -102,7 +109,10 @@ pub fn check_trace(trace: &Trace) -> Result<(), Outside> {
     let deaths = trace.events.iter().filter(is_death).count();
     let others = trace.events.len() - deaths;
     let (alive, deceased) = trace.heaps_before;
-    refuse(9, alive + others > MOST_HELD || deceased + deaths > MOST_HELD)?;
+    refuse(
+        9,
+        alive + others > MOST_HELD || deceased + deaths > MOST_HELD,
+    )?;
 
     // An emptied list leaves the position below zero, come round to 2^64 - 1, also if it was filled again.
     let (position, length) = trace.position_and_length;

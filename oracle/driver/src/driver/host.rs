@@ -29,7 +29,10 @@ pub struct Answer {
 pub enum Outcome {
     Inside(Answer),
     /// Outside the domain; `ran` is what the published code did nevertheless, if it ran to its end.
-    Outside { why: Outside, ran: Option<Answer> },
+    Outside {
+        why: Outside,
+        ran: Option<Answer>,
+    },
 }
 
 /// The whole state after a call.
@@ -218,5 +221,9 @@ fn expect_slept(wait: Option<u32>) {
         .map(|ticks| Duration::from_millis(ticks.into()))
         .into_iter()
         .collect();
-    assert_eq!(tokio::time::take_slept(), expected, "the waits of the published code");
+    assert_eq!(
+        tokio::time::take_slept(),
+        expected,
+        "the waits of the published code"
+    );
 }

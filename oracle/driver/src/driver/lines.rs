@@ -51,7 +51,8 @@ impl RawLine {
     fn take(&mut self, piece: &[u8]) {
         let room = LONGEST - self.bytes.len();
         self.too_long |= piece.len() > room;
-        self.bytes.extend_from_slice(&piece[..piece.len().min(room)]);
+        self.bytes
+            .extend_from_slice(&piece[..piece.len().min(room)]);
     }
 
     /// Whether the line is empty or a remark.

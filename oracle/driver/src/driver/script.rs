@@ -1,7 +1,8 @@
-//! The lines of a script: what each one says, and how it is read. A line that is not of the form reads as `None`.
-use super::words::{
-    Address, Gossips, Kind, Packet, PacketKind, Peer, Phase, Record, Wait,
-};
+//! The lines of a script: what each one says, and how it is read and written.
+//! A line that is not of the form reads as `None`.
+use std::fmt;
+
+use super::words::{Address, Gossips, Kind, Packet, PacketKind, Peer, Phase, Record, Wait};
 
 const MOST_RECORDS: usize = 256;
 const MOST_DRAWS: usize = 1024;
@@ -171,7 +172,10 @@ fn split_at_bar<'a, 'b>(words: &'a [&'b str]) -> Option<(&'a [&'b str], Vec<u64>
     if draws.len() > MOST_DRAWS {
         return None;
     }
-    let draws = draws.iter().map(|word| number(word)).collect::<Option<_>>()?;
+    let draws = draws
+        .iter()
+        .map(|word| number(word))
+        .collect::<Option<_>>()?;
     Some((&words[..bar], draws))
 }
 
@@ -227,6 +231,55 @@ fn number32(word: &str) -> Option<u32> {
     number(word)?.try_into().ok()
 }
 
+impl fmt::Display for Line {
+    fn fmt(&self, f: &mut fmt::Formatter<'_>) -> fmt::Result {
+        match self {
+            Line::New(creation) => write!(f, "new {creation}"),
+            Line::Call(call) => write!(f, "{call}"),
+            Line::Wait(wait) => write!(f, "wait {wait}"),
+            Line::Rows(rows) => write!(f, "rows {} {}", rows.gossip, rows.events),
+        }
+    }
+}
+
+impl fmt::Display for Creation {
+    fn fmt(&self, f: &mut fmt::Formatter<'_>) -> fmt::Result {
+        let s = &self.settings;
+        let waits = [
+            s.ping_interval,
+            s.ping_timeout,
+            s.ping_req_timeout,
+            s.suspect_timeout,
+        ];
+        let others = [s.group, s.send_constant, s.max_selected, s.max_size];
+        for setting in waits.iter().chain(&others) {
+            write!(f, "{setting} ")?;
+        }
+        write!(f, "{} {} {}", self.own.address, self.own.number, self.tick)
+    }
+}
+
+impl fmt::Display for Call {
+    fn fmt(&self, f: &mut fmt::Formatter<'_>) -> fmt::Result {
+        let draws = match self {
+            Call::Timer { now } => return write!(f, "timer {now}"),
+            Call::Add { peer, draws } => {
+                write!(f, "add {} {} |", peer.address, peer.number)?;
+                draws
+            }
+            Call::Message { packet, draws } => {
+                write!(f, "{packet} |")?;
+                draws
+            }
+            Call::Step { now, draws } => {
+                write!(f, "step {now} |")?;
+                draws
+            }
+        };
+        draws.iter().try_for_each(|draw| write!(f, " {draw}"))
+    }
+}
+
 #[cfg(test)]
 mod tests {
     use super::parse;
@@ -255,7 +308,9 @@ mod tests {
             "wait dead 5 1 700",
             "rows 1024 0",
         ] {
-            assert!(reads(line), "{line}");
+            let read = parse(line.as_bytes());
+            let written = read.map(|read| read.to_string());
+            assert_eq!(written.as_deref(), Some(line));
         }
     }
 

@@ -15,13 +15,21 @@ impl Disseminator {
 
     /// The deceased heap in array order.
     pub(crate) fn deceased_entries(&self) -> Vec<HeldGossip> {
-        in_array_order(&self.nodes_deceased.try_read().expect("no call is under way"))
+        in_array_order(
+            &self
+                .nodes_deceased
+                .try_read()
+                .expect("no call is under way"),
+        )
     }
 
     /// The lengths of the alive and the deceased heap.
     pub(crate) fn heap_lengths(&self) -> (usize, usize) {
         let alive = self.nodes_alive.try_read().expect("no call is under way");
-        let deceased = self.nodes_deceased.try_read().expect("no call is under way");
+        let deceased = self
+            .nodes_deceased
+            .try_read()
+            .expect("no call is under way");
         (alive.len(), deceased.len())
     }
 }
