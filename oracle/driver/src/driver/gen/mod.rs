@@ -79,7 +79,8 @@ impl NodeRun {
     /// Heaps fill in a few calls; sends and timers rise slowly.
     fn stretch(&mut self, mood: Mood) -> u64 {
         match mood {
-            Mood::News | Mood::Deaths | Mood::Reap => self.rng.between(2, 6),
+            Mood::News | Mood::Reap => self.rng.between(2, 6),
+            Mood::Deaths => self.rng.between(2, 10),
             Mood::Grow | Mood::Probe | Mood::Chat => self.rng.between(3, 25),
             Mood::Spread => self.rng.between(5, 40),
             Mood::Silence => self.rng.between(10, 90),

@@ -159,7 +159,10 @@ impl Proposer<'_> {
     /// Deaths of listed peers, and of others right after they join.
     fn deaths(&mut self) -> Call {
         let room = (MOST_HELD - self.state.deceased.len()) as u64;
-        let count = self.rng.between(1, 32).min(room);
+        let count = match self.rng.chance(60) {
+            true => 32.min(room),
+            false => self.rng.below(room.min(32) + 1),
+        };
         let mut gossip = Gossips::new();
         for _ in 0..count {
             let subject = self.peer_to_die();
