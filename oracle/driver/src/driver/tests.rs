@@ -51,7 +51,10 @@ fn a_pick_may_give_one_peer_twice() {
     let requests = "wait req 9 0 0\nstep 0 |\nwait req 9 0 0\nstep 0 | 3 0 1";
     let script = format!("new 10 10 10 10 2 3 1 1400 1 0 0\n{order}{requests}");
     let all = answers(&script, true);
-    assert!(all.contains("> 2 req 1 9 s:1:9:0\n> 3 req 1 9 s:1:9:0\n"), "{all}");
+    assert!(
+        all.contains("> 2 req 1 9 s:1:9:0\n> 3 req 1 9 s:1:9:0\n"),
+        "{all}"
+    );
     assert!(
         all.contains("= ok 3\n> 4 req 1 9 s:1:9:0\n> 4 req 1 9 s:1:9:0\n"),
         "{all}"

@@ -16,8 +16,8 @@ use world::World;
 /// More draws than any one call uses.
 const PLENTY: usize = 256;
 
-/// How often a proposal may be turned down before a harmless call is taken.
-const TRIES: usize = 20;
+/// How often proposals in one mood may be turned down.
+const TRIES: usize = 10;
 
 /// Writes a script of `nodes` nodes and `calls` calls in all, and returns what it reaches.
 pub fn generate(out: &mut impl Write, seed: u64, nodes: u64, calls: u64) -> io::Result<Coverage> {
@@ -141,11 +141,14 @@ impl NodeRun {
         call
     }
 
+    /// A call in the mood, or any that fits.
     fn fitting_call(&mut self, mood: Mood) -> Call {
-        for _ in 0..TRIES {
-            let call = self.proposer().call(mood);
-            if fits::fits(&call, &self.state, self.world.own()) {
-                return call;
+        for mood in [mood, Mood::Chat] {
+            for _ in 0..TRIES {
+                let call = self.proposer().call(mood);
+                if fits::fits(&call, &self.state, self.world.own()) {
+                    return call;
+                }
             }
         }
         self.proposer().harmless()

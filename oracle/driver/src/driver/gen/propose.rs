@@ -50,8 +50,10 @@ impl Proposer<'_> {
     pub fn call(&mut self, mood: Mood) -> Call {
         match mood {
             Mood::Grow => self.growth(),
-            Mood::News => self.news(),
-            Mood::Deaths => self.deaths(),
+            Mood::News if self.state.alive.len() < MOST_HELD => self.news(),
+            Mood::Deaths if self.state.deceased.len() < MOST_HELD => self.deaths(),
+            // What fills a heap empties it again once it is full.
+            Mood::News | Mood::Deaths => self.plain_message(),
             Mood::Spread => self.plain_message(),
             Mood::Probe if self.rng.chance(30) => self.answer_of_target(),
             Mood::Probe => self.step(),
@@ -135,7 +137,7 @@ impl Proposer<'_> {
         let room = (MOST_HELD - self.state.alive.len()).min(MOST_GOSSIP) as u64;
         let count = match self.rng.chance(70) {
             true => room,
-            false => self.rng.below(room + 1),
+            false => self.rng.between(1, room),
         };
         let gossip = (0..count).map(|rise| Some(self.raise(rise))).collect();
         let from = self.world.any_address(self.rng);
@@ -161,7 +163,7 @@ impl Proposer<'_> {
         let room = (MOST_HELD - self.state.deceased.len()) as u64;
         let count = match self.rng.chance(60) {
             true => 32.min(room),
-            false => self.rng.below(room.min(32) + 1),
+            false => self.rng.between(1, room.min(32)),
         };
         let mut gossip = Gossips::new();
         for _ in 0..count {
