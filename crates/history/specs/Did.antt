@@ -67,6 +67,8 @@ module _ {A : Type 0} (address : Address A) (a : A) where
     pub bound : (f : A) (n : ℕ) → m .deed ≡ Told (Deceased f a n) → address .same own a ≡ false → inside t ≡ true → goes address a (m .deed) (m .before) ≡ true → t .top ≤ n
     -- nor lower than the held one: an older message removes nobody
     pub no-older : (f : A) (n : ℕ) → m .deed ≡ Told (Deceased f a n) → goes address a (m .deed) (m .before) ≡ true → numbered address a (m .before) ≤ n
+    -- an address that was listed leaves at a departure of the ledger, and at nothing else
+    pub leaves : lists address a (m .before) ≡ true → lists address a (m .after) ≡ not (goes address a (m .deed) (m .before))
     -- who is listed before and after it: the ledger says so
     pub before : inside t ≡ lists address a (m .before)
     pub after : inside (step address a m t) ≡ lists address a (m .after)
@@ -98,6 +100,7 @@ module _ {A : Type 0} (address : Address A) (a : A) where
           back = λ p q. f .back (sym i ∙ p) q ∙ tk q;
           bound = λ g n e q p h. omega (arith, k .low (sym i ∙ p) q, older g n e h);
           no-older = older;
+          leaves = f .was;
           before = i;
           after = inside-is kept;
         },

@@ -5,3 +5,6 @@ pub mod Rules
 pub mod Histories
 pub mod Walk
 pub mod WalkSteps
+pub mod Worlds
+pub mod Demand3
+pub mod Auditor

@@ -14,7 +14,7 @@ use Rattle.model.specs.declared.State.the-variants as state
 use Rattle.model.specs.Rows.{pick, removeAt}
 use Rattle.model.specs.Answers.{Answer, done, refused, when, andThen}
 use Rattle.model.specs.Bools.{and-split}
-use Rattle.model.specs.After.{After, halts, gives, after-when, after-draw, after-then}
+use Rattle.model.specs.After.{After, halts, gives, after-map, after-when, after-draw, after-then}
 use Rattle.model.specs.Words.{Address, Lawful, isAlive, Member, Event, Nothing, Joined, Recovered, Suspected, Deceased, Gossip, Entry, Timer, noTimer}
 use Rattle.model.specs.Members.{Members, added, add, remove, update}
 use Rattle.model.specs.Node.{Node, Out, withMembers, withHeaps, withTimers, quiet, pushed, emitAlive, emitDeceased, lists, numbered, stateOf, change, leave}
@@ -246,7 +246,7 @@ module _ {A : Type 0} (address : Address A) (lawful : Lawful address) (a : A) wh
   timer-did i s ds w = ended-did (getD (s .timers) i (noTimer address)) (removeAt (s .timers) i) s ds w
 
   pub add-did : (b : A) (n : ℕ) (s : Node A) (ds : List ℕ) → Whole (address .same) (s .members) → lists address b s ≡ false
-      → Runs s (Added b n) (andThen (add (address .same) b n (s .members) ds) λ m rest. done (record { node = withMembers s m; said = [] }) rest)
+      → After (λ m. Did address a s (Added b n) (record { node = withMembers s m; said = [] })) (add (address .same) b n (s .members) ds)
   add-did b n s ds w e =
-      after-then (add-gives b n (s .members) ds)
-      (λ r rest p. gives (came-did address a lawful b n (p .0) s (Added b n) _ w (p .1) refl e (p .2) refl refl refl (λ _. omega arith) (λ _. refl)))
+      after-map (λ m p. came-did address a lawful b n (p .0) s (Added b n) _ w (p .1) refl e (p .2) refl refl refl (λ _. omega arith) (λ _. refl))
+      (add-gives b n (s .members) ds)

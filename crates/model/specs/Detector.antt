@@ -22,6 +22,11 @@ use Rattle.model.specs.Handler.{says}
 unfoldable pub isOver : ℕ → ℕ → ℕ → Bool
 isOver wait now since = leb wait ((now + ticks - since) % ticks)
 
+-- a place of the rest of a row is one further in the row
+abbrev pub later : Option ℕ → Option ℕ
+later none = none
+later (some i) = some (suc i)
+
 module _ {A : Type 0} where
   -- how long each state waits; "SendingPingReq at once", "Declaring at once"
   abbrev pub waitOf : Settings → WaitState A → ℕ
@@ -123,11 +128,7 @@ module _ {A : Type 0} (address : Address A) where
   -- "the earliest started that is over": its place in the row
   unfoldable pub firstOver : ℕ → ℕ → List (Timer A) → Option ℕ
   firstOver wait now [] = none
-  firstOver wait now (t ∷ ts) = elim (isOver wait now (t .since)) [ true ↦ some 0 | false ↦ onward (firstOver wait now ts) ]
-    where
-      onward : Option ℕ → Option ℕ
-      onward none = none
-      onward (some i) = some (suc i)
+  firstOver wait now (t ∷ ts) = elim (isOver wait now (t .since)) [ true ↦ some 0 | false ↦ later (firstOver wait now ts) ]
 
   -- "its address is removed if listed, Deceased emitted at its number, its place reused"
   unfoldable pub ended : Timer A → Node A → List ℕ → Answer (Out A)

@@ -11,20 +11,23 @@ use lib.ListN.{length, getD, length-append}
 use lib.Dec.{leb}
 use borrow.Author.Tests.{leb-false}
 use Rattle.model.specs.declared.State.the-variants as state
+use Rattle.model.specs.declared.Settings.{Settings}
 use Rattle.model.specs.Rows.{pick, every, removeAt}
 use Rattle.model.specs.Answers.{Answer, done, refused, when, andThen}
-use Rattle.model.specs.Bools.{and-split, and-join, every-append}
+use Rattle.model.specs.Bools.{and-split, and-join, every-append, none-some}
 use Rattle.model.specs.After.{After, halts, gives, after-when, after-then, after-map}
 use Rattle.model.specs.Words.{Address, Lawful, Gossip, Timer, Message, Action, Ping, PingReq, Ack, WaitState, SendingPing, WaitingForPingAck, SendingPingReq, WaitingForPingReqAck, Declaring, noTimer}
 use Rattle.model.specs.Members.{Members, addrs, Picked, pickFrom}
 use Rattle.model.specs.Node.{Node, Out, Effect, withMembers, withTimers, lists, numbered, change, leave, spread, fresh}
 use Rattle.model.specs.Handler.{gossip, admit, acked, answerTo, forwarded, handle}
-use Rattle.model.specs.Detector.{Stepped, pinged, sendPing, waited, askEach, suspect, asked, pickGroup, sendPingReq, declare, step, ended, endAt, firstOver, isOver}
-use Rattle.model.specs.Sound.{validGossip}
+use Rattle.model.specs.Detector.{Stepped, pinged, sendPing, waited, askEach, suspect, asked, pickGroup, sendPingReq, declare, step, ended, endAt, firstOver, isOver, later}
+use Rattle.model.specs.Sound.{inRange, Kind, AliveKind, DeceasedKind, validGossip}
 use Rattle.model.specs.Calls.{validAction, validOption, validState}
+use Rattle.model.specs.Heap.{allBelow}
+use Rattle.model.specs.Counts.{one-le}
 use Rattle.model.specs.Whole.{Whole}
 use Rattle.model.specs.Picking.{Turned, pick-turned}
-use Rattle.model.specs.Good.{Good}
+use Rattle.model.specs.Good.{Good, GoodHeap}
 use Rattle.model.specs.Keeps.{Keeps, KeepsOut, keeps-trans, same-node, with-members, more-keeps, gossip-keeps, admit-keeps, acked-keeps, spread-keeps, change-keeps, leave-keeps, with-timers, emit-alive, emit-deceased, says-suspected, says-deceased}
 
 -- what holds of every element holds of the one at a place, and of those that are left without it
@@ -156,3 +159,42 @@ module _ {A : Type 0} (address : Address A) (lawful : Lawful address) where
       (every-removeAt (λ (x : Timer A). address .valid (x .addr)) (s .timers) i (g .timers)) in
       after-map (λ o q. record { good = q .good; own = q .own; settings = q .settings })
       (ended-keeps t s′ ds k (every-in (λ (x : Timer A). address .valid (x .addr)) (noTimer address) (s .timers) i h (g .timers)))
+
+  -- the place of the timer that ends is one of the row
+  behind : (n : ℕ) (o : Option ℕ) (i : ℕ) → ((j : ℕ) → o ≡ some j → j < n) → later o ≡ some i → i < suc n
+  behind n none i h e = none-some e
+  behind n (some j) i h e = let z : _≡_ {A = ℕ} (suc j) i = cc in omega (arith, h j refl)
+
+  pub first-over-in : (wait now : ℕ) (ts : List (Timer A)) (i : ℕ) → firstOver address wait now ts ≡ some i → i < length ts
+  unfolding firstOver
+  first-over-in wait now [] i e = none-some e
+  first-over-in wait now (t ∷ ts) i e =
+      (elim (isOver wait now (t .since)) as (λ u. elim u [ true ↦ some 0 | false ↦ later (firstOver address wait now ts) ] ≡ some i → i < suc (length ts)) [
+        | true ↦ λ q. let z : _≡_ {A = ℕ} 0 i = cc in omega arith
+        | false ↦ λ q. behind (length ts) (firstOver address wait now ts) i (first-over-in wait now ts) q
+      ]) e
+
+  -- a fresh node is good
+  pub fresh-good : (settings : Settings) (own : A) (n : ℕ) → inRange settings ≡ true → address .valid own ≡ true → Good address (fresh settings own n)
+  unfolding fresh allBelow
+  fresh-good settings own n c v =
+      record {
+        settings = c;
+        own = v;
+        whole =
+            record {
+              once = λ b. omega (arith, one-le (address .same) (address .same b own));
+              counts = λ b. refl;
+              long = refl;
+              few = omega arith;
+              place = omega arith;
+            };
+        valid = and-join v refl;
+        alive = none-held AliveKind;
+        deceased = none-held DeceasedKind;
+        few = omega arith;
+        timers = refl;
+      }
+    where
+      none-held : (k : Kind) → GoodHeap address k []
+      none-held k = record { few = omega arith; entries = refl; order = refl }
