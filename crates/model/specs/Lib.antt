@@ -4,6 +4,7 @@ pub mod Bounds
 pub mod Answers
 pub mod Words
 pub mod Limit
+pub mod LimitLaws
 pub mod Size
 pub mod IPv4
 pub mod Heap
