@@ -21,3 +21,5 @@ pub mod Counts
 pub mod Pad
 pub mod Whole
 pub mod Distinct
+pub mod Places
+pub mod Draws
