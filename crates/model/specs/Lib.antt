@@ -38,3 +38,5 @@ pub mod ChooseLaws
 pub mod Chosen
 pub mod Keeps
 pub mod KeepsCalls
+pub mod Places
+pub mod Draws

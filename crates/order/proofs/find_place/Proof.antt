@@ -1,0 +1,67 @@
+-- `order::find_place` meets its contract: none of the first i places holds the address.
+-- Assumes nothing.
+use mathlib.Core.Path.{_≡_, ap, sym, _∙_}
+use mathlib.Core.Bool.{true, false}
+use Prim.Native.Nat.{ℕ, _+_, _-_, _≤_, _<_}
+use native.Mathlib.Omega.{arith}
+use lib.ListN.{length, getD, take}
+use lib.Seq.{length-take-le, getD-take}
+use Rattle.model.specs.IPv4.{ipv4}
+use Rattle.model.specs.Places.{Scanned, scan-start, scan-found, scan-next, scan-end}
+use borrow.Author.Needs.{needs}
+use Rattle.order.proofs.find_place.Statement.{statement}
+use Rattle.order.proofs.find_place.Tie as tie
+
+abbrev Inv-loop : tie.InvT-loop
+Inv-loop n a row i₀ i = (i ≤ n) × Scanned (ipv4 .same) a (take n row) i
+
+abbrev μ-loop : tie.MeasureT-loop
+μ-loop n a row i₀ i = n - i
+
+loop-holds : tie.Need-loop-holds Inv-loop μ-loop
+loop-holds c = (omega arith, scan-start (ipv4 .same) (c .args .a) (take (c .args .n) (c .args .t1)))
+
+returns : tie.Need-returns Inv-loop μ-loop
+returns c =
+    let a = c .before .before .before .before .args in
+    let l = c .before .before .before .loop in
+    let hl : length (a .t1) ≡ 64 = search needs in
+    let n : length (take (a .n) (a .t1)) ≡ a .n = length-take-le (a .n) (a .t1) (omega arith) in
+    let e : ipv4 .same (a .a) (getD (take (a .n) (a .t1)) (l .i) 0) ≡ true =
+    ap (ipv4 .same (a .a)) (getD-take (a .n) (a .t1) (l .i) 0 (omega arith)) ∙ sym (c .before .same .ensures) ∙ c .if1 .taken in
+    (scan-found (ipv4 .same) (a .a) 0 (take (a .n) (a .t1)) (l .i) (l .inv .1) (omega arith) e, omega arith)
+
+loop-again : tie.Need-loop-again Inv-loop μ-loop
+loop-again c =
+    let a = c .before .before .before .before .args in
+    let l = c .before .before .before .loop in
+    let hl : length (a .t1) ≡ 64 = search needs in
+    let n : length (take (a .n) (a .t1)) ≡ a .n = length-take-le (a .n) (a .t1) (omega arith) in
+    let e : ipv4 .same (a .a) (getD (take (a .n) (a .t1)) (l .i) 0) ≡ false =
+    ap (ipv4 .same (a .a)) (getD-take (a .n) (a .t1) (l .i) 0 (omega arith)) ∙ sym (c .before .same .ensures) ∙ c .if1 .left in
+    (omega arith, scan-next (ipv4 .same) (a .a) 0 (take (a .n) (a .t1)) (l .i) (l .inv .1) (omega arith) e)
+
+returns-2 : tie.Need-returns-2 Inv-loop μ-loop
+returns-2 c =
+    let a = c .before .before .args in
+    let l = c .before .loop in
+    let hl : length (a .t1) ≡ 64 = search needs in
+    let n : length (take (a .n) (a .t1)) ≡ a .n = length-take-le (a .n) (a .t1) (omega arith) in
+    let e : l .i ≡ a .n = omega arith in
+    (sym e ∙ scan-end (ipv4 .same) (a .a) (take (a .n) (a .t1)) (l .i) (l .inv .1) (omega arith), omega arith)
+
+pub find-place-spec : {M : Type 1} → statement M
+find-place-spec =
+    tie.close
+    (tie.spec
+    Inv-loop
+    μ-loop
+    loop-holds
+    (λ c. search needs)
+    (λ c. search needs)
+    (λ c κs. search needs)
+    returns
+    (λ c. search needs)
+    (λ c. search needs)
+    loop-again
+    returns-2)

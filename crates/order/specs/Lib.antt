@@ -1,0 +1,3 @@
+-- How rows carry the rules of the probing order.
+pub mod Views
+pub mod Changes

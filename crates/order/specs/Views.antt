@@ -1,0 +1,89 @@
+-- How a row of 64 places carries the rules of the probing order, and the words of its contracts.
+-- Assumes nothing.
+use mathlib.Core.Path.{_≡_}
+use mathlib.Core.Bool.{Bool, true, false, _&&_}
+use mathlib.Core.List.{List, [], _∷_, _++_}
+use mathlib.Core.Option.{Option, none, some}
+use Prim.Native.Nat.{ℕ, _+_, _-_, _≤_, _<_}
+use lib.ListN.{length, take, drop, replicate, set}
+use lib.Dec.{ltb, eqb}
+use Rattle.model.specs.Answers.{Answer, done, refused}
+use Rattle.model.specs.IPv4.{ipv4}
+use Rattle.model.specs.Rows.{pick, padTo}
+use Rattle.model.specs.Members as list
+use Rattle.order.specs.declared.Drew.{Drew}
+use Rattle.order.specs.declared.Drew.the-variants.{Used, Refused}
+use Rattle.order.specs.declared.Shuffled.{Shuffled}
+use Rattle.order.specs.declared.Order.{Order}
+use Rattle.order.specs.declared.Turned.{Turned}
+use Rattle.order.specs.declared.Exclusion.{Exclusion}
+use Rattle.order.specs.declared.Exclusion.the-variants.{Nobody, Peer}
+use Rattle.order.specs.declared.Picks.{Picks}
+use Rattle.order.specs.declared.Picked.{Picked}
+
+-- how a rule's answer counts its draws, of which k were there
+abbrev pub drewOf : {B : Type 0} → ℕ → Answer B → Drew
+drewOf k (refused r) = Refused r
+drewOf k (done b rest) = Used (k - length rest)
+
+-- a shuffle of the first n, whose answer stands in a row; the places behind stay as they are
+abbrev pub shuffledRow : List ℕ → ℕ → Answer (List ℕ) → List ℕ
+shuffledRow row n (refused r) = row
+shuffledRow row n (done l rest) = l ++ drop n row
+
+abbrev pub shuffledAs : List ℕ → ℕ → ℕ → Answer (List ℕ) → Shuffled
+shuffledAs row n k x = record { row = shuffledRow row n x; drew = drewOf k x }
+
+abbrev pub shuffledOf : List ℕ → ℕ → List ℕ → ℕ → Shuffled
+shuffledOf row n draws from = shuffledAs row n (length draws - from) (list.shuffle (ipv4 .blank) (take n row) (drop from draws))
+
+-- an order of n addresses whose position is a place of it, or 0
+pub record Ready (order : Order) (n : ℕ) : Type 0 where
+  pub few : n ≤ 64
+  pub long : length (order .row) ≡ 64
+  pub place : order .position ≤ n - 1
+
+-- the order as a list of the rules: its table is not read
+abbrev pub viewOrder : Order → ℕ → list.Members ℕ
+viewOrder o n = record { table = []; order = take n (o .row); position = o .position }
+
+abbrev pub packOrder : Order → ℕ → list.Members ℕ → Order
+packOrder o n m = record { row = m .order ++ drop n (o .row); position = m .position }
+
+abbrev pub turnedOrder : Order → ℕ → Answer (list.Members ℕ) → Order
+turnedOrder o n (refused r) = o
+turnedOrder o n (done m rest) = packOrder o n m
+
+abbrev pub turnedAs : Order → ℕ → ℕ → Answer (list.Members ℕ) → Turned
+turnedAs o n k x = record { order = turnedOrder o n x; drew = drewOf k x }
+
+abbrev pub turnedOf : Order → ℕ → List ℕ → ℕ → Turned
+turnedOf o n draws from = turnedAs o n (length draws - from) (list.advance (ipv4 .blank) (viewOrder o n) (drop from draws))
+
+abbrev pub excluded : Exclusion → Option ℕ
+excluded Nobody = none
+excluded (Peer e) = some e
+
+abbrev pub picksOf : List ℕ → Picks
+picksOf l = record { row = padTo 4 (ipv4 .blank) l; count = length l }
+
+abbrev pub notedOf : Picks → ℕ → Bool → Picks
+notedOf p x over = pick over p (record { row = set (p .row) (p .count) x; count = p .count + 1 })
+
+abbrev pub goesOn : ℕ → ℕ → ℕ → Bool
+goesOn left count wanted = pick (eqb left 0) false (ltb count wanted)
+
+abbrev pub pickedOrder : Order → ℕ → Answer (list.Picked ℕ) → Order
+pickedOrder o n (refused r) = o
+pickedOrder o n (done p rest) = packOrder o n (p .members)
+
+abbrev pub pickedRow : Answer (list.Picked ℕ) → Picks
+pickedRow (refused r) = picksOf []
+pickedRow (done p rest) = picksOf (p .picks)
+
+abbrev pub pickedAs : Order → ℕ → ℕ → Answer (list.Picked ℕ) → Picked
+pickedAs o n k x = record { order = pickedOrder o n x; picks = pickedRow x; drew = drewOf k x }
+
+abbrev pub pickedOf : Order → ℕ → ℕ → Exclusion → ℕ → List ℕ → ℕ → Picked
+pickedOf o n own e wanted draws from =
+    pickedAs o n (length draws - from) (list.pickFrom (ipv4 .same) (ipv4 .blank) own (excluded e) wanted (viewOrder o n) (drop from draws))
