@@ -40,3 +40,4 @@ pub mod Keeps
 pub mod KeepsCalls
 pub mod Places
 pub mod Draws
+pub mod Packing
