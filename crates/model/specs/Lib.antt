@@ -41,3 +41,4 @@ pub mod KeepsCalls
 pub mod Places
 pub mod Draws
 pub mod Packing
+pub mod Closing
