@@ -23,3 +23,5 @@ pub mod Whole
 pub mod Distinct
 pub mod Places
 pub mod Draws
+pub mod Aside
+pub mod Padded
