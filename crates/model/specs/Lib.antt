@@ -42,3 +42,5 @@ pub mod Places
 pub mod Draws
 pub mod Packing
 pub mod Closing
+pub mod Aside
+pub mod Padded
