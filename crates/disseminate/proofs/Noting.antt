@@ -12,16 +12,17 @@ use lib.ListN.{length, getD, set, take, replicate, length-map, length-take, leng
 use lib.Seq.{take-at, take-all, take-suc, take-suc-set, getD-at, getD-set-same, getD-set-other, length-take-le}
 use borrow.Author.Tests.{eq-eqb, ne-eqb}
 use Rattle.model.specs.Rows.{pick, padTo}
-use Rattle.model.specs.Pad.{pad-step, length-padTo}
+use Rattle.model.specs.Pad.{length-padTo}
 use Rattle.model.specs.IPv4.{ipv4}
 use Rattle.model.specs.Words as W
 use Rattle.model.specs.Words.{sameGossip}
 use Rattle.model.specs.Choose.{wasNoted}
 use Rattle.model.specs.HeapFrames.{map-append}
 use Rattle.types.specs.declared.Gossip.{Gossip}
-use Rattle.types.specs.Views.{toGossip, fromGossip, noGossip, from-to-gossip}
+use Rattle.types.specs.Views.{toGossip, fromGossip, noGossip, from-to-gossips}
 use Rattle.heap.specs.declared.Entry.{Entry}
 use Rattle.heap.specs.Views.{toEntry, pack-view, view-length}
+use Rattle.heap.proofs.Padding.{pad-snoc}
 use Rattle.disseminate.specs.declared.Chosen.{Chosen}
 use Rattle.disseminate.specs.declared.Choice.{Choice}
 use Rattle.disseminate.specs.declared.Terms.{Terms}
@@ -80,21 +81,13 @@ module _ (rows : List Gossip) (sent : List ℕ) (g : Gossip) (n : ℕ) where
   was-none zero h = refl
   was-none (suc i) h = absurd (omega arith)
 
--- one more behind a row
-pad-snoc : {A : Type 0} (n : ℕ) (z v : A) (l : List A) (k : ℕ) → k ≡ length l → k < n → set (padTo n z l) k v ≡ padTo n z (l ++ (v ∷ []))
-pad-snoc n z v l k q h =
-    let e : length (l ++ (v ∷ [])) ≡ suc (length l) = length-append l (v ∷ []) ∙ add-one (length l) in
-    ap (λ (j : ℕ). set (padTo n z l) j v) q
-    ∙ ap (λ x. set (padTo n z x) (length l) v) (sym (take-at l (v ∷ []) (length l) refl))
-    ∙ pad-step n (length l) z v (l ++ (v ∷ [])) (omega arith) (omega arith) (getD-at l v [] z (length l) refl)
-    ∙ ap (padTo n z) (take-all (suc (length l)) (l ++ (v ∷ [])) (omega arith))
-
 -- a row that is filled one place further is packed
 more-packed : {A : Type 0} (n : ℕ) (z v : A) (l : List A) (k : ℕ) → length l ≡ n → k < n → l ≡ padTo n z (take k l) → set l k v ≡ padTo n z (take (k + 1) (set l k v))
 more-packed n z v l k q h e =
     let t : length (take k l) ≡ k = length-take-le k l (omega arith) in
     ap (λ (r : List _). set r k v) e
-    ∙ pad-snoc n z v (take k l) k (sym t) h
+    ∙ ap (λ (j : ℕ). set (padTo n z (take k l)) j v) (sym t)
+    ∙ pad-snoc n z v (take k l) (omega arith)
     ∙ ap (padTo n z) (sym (ap (λ (j : ℕ). take j (set l k v)) (add-one k) ∙ take-suc-set l k v (omega arith)))
 
 -- notes before a place do not see what is stored there
@@ -143,10 +136,6 @@ module _ (n : Chosen) (p : PackedChosen n) (e : Entry) (room : n .count < 64) wh
       })
 
 -- what is read is packed again
-from-to-gossips : (l : List Gossip) → map fromGossip (map toGossip l) ≡ l
-from-to-gossips [] = refl
-from-to-gossips (g ∷ l) = λ i. from-to-gossip g i ∷ from-to-gossips l i
-
 counts-noted : (rows : List Gossip) (sent : List ℕ) (k : ℕ) → k ≤ length sent → counts (noted rows sent k) ≡ take k sent
 unfolding counts noted
 counts-noted rows sent zero h = refl

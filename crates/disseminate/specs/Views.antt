@@ -13,7 +13,8 @@ use Rattle.model.specs.Words as W
 use Rattle.model.specs.Choose as M
 use Rattle.model.specs.ChooseLaws.{GoodHeaps, Within}
 use Rattle.types.specs.declared.Gossip.{Gossip}
-use Rattle.types.specs.Views.{toGossip, fromGossip, noGossip}
+use Rattle.types.specs.Views.{toGossip, fromGossip, noGossip, to-from-gossip}
+use Rattle.model.specs.Packing.{view-pack}
 use Rattle.heap.specs.declared.Heap.{Heap}
 use Rattle.heap.specs.Views.{heapView, packHeap, Packed}
 use Rattle.disseminate.specs.declared.Pushed.{Pushed}
@@ -92,6 +93,10 @@ packChoice m =
       «from_alive» = m .from-alive;
       «from_deceased» = m .from-deceased;
     }
+
+-- what was chosen is read back from the rows
+pub chosen-view : (m : M.Choice ℕ) → chosenView (packChoice m .chosen) ≡ m .chosen
+chosen-view m = view-pack toGossip fromGossip to-from-gossip 64 noGossip (m .chosen)
 
 -- the rows hold count gossips and their send counts, and every place behind them is unused
 pub record PackedChosen (n : Chosen) : Type 0 where

@@ -14,7 +14,7 @@ ghost use Rattle.model.specs.IPv4.{ipv4};
 ghost use Rattle.model.specs.Limit.{limitOf};
 ghost use Rattle.model.specs.Choose.{wasNoted, takeTop, tryAlive, tryDeceased, afterAlive, afterDeceased, termsOf, choose as chosenFrom, deathIn, death as deathOf};
 ghost use Rattle.model.specs.Node.{pushed};
-ghost use Rattle.model.specs.Sound.{AliveKind, DeceasedKind};
+ghost use Rattle.model.specs.Sound.{AliveKind, DeceasedKind, inRange};
 ghost use Rattle.model.specs.Good.{GoodHeap};
 ghost use Rattle.types.specs.Views.{toGossip};
 ghost use Rattle.heap.specs.Views.{toEntry, heapView, packHeap, Packed};
@@ -313,4 +313,14 @@ pub fn choose(alive: Heap, deceased: Heap, t: Terms) -> Choice
         left -= 1;
     }
     c
+}
+
+// Gossip for one message of a node with so many members.
+pub fn get_gossip(alive: Heap, deceased: Heap, s: Settings, members: usize) -> Choice
+    requires { ⌜ Packed alive × Packed deceased × GoodHeap ipv4 AliveKind (heapView alive) × GoodHeap ipv4 DeceasedKind (heapView deceased) × (inRange s ≡ true) × (members ≤ 64) ⌝ }
+    ensures { λ r. ⌜ r ≡ packChoice (chosenFrom ipv4 (termsOf (s .«max_selected») (s .«max_size») (limitOf members (s .«send_constant»))) (heapView alive) (heapView deceased)) ⌝ }
+{
+    let limit = limit::send_limit(members, s.send_constant);
+    let t = terms_of(s.max_selected, s.max_size, limit);
+    choose(alive, deceased, t)
 }
