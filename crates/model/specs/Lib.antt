@@ -25,3 +25,5 @@ pub mod Places
 pub mod Draws
 pub mod Aside
 pub mod Padded
+pub mod Checks
+pub mod SoundList
