@@ -27,3 +27,4 @@ pub mod Aside
 pub mod Padded
 pub mod Checks
 pub mod SoundList
+pub mod Picks
