@@ -1,6 +1,7 @@
 -- How the rows of a list carry the list of the rules, and the words of the contracts.
 -- Assumes nothing.
 use mathlib.Core.Path.{_≡_}
+use mathlib.Core.Bool.{Bool}
 use mathlib.Core.List.{List, [], _∷_, map}
 use Prim.Native.Nat.{ℕ, _-_, _≤_}
 use lib.ListN.{length, take, drop}
@@ -27,6 +28,12 @@ fromMember m = record { addr = m .addr; state = m .state; number = m .number }
 -- an unused place
 abbrev pub nobody : Member
 nobody = fromMember (words.noMember ipv4)
+
+abbrev pub addrOf : Member → ℕ
+addrOf m = m .addr
+
+abbrev pub blankAddress : ℕ → Bool
+blankAddress a = ipv4 .same a (ipv4 .blank)
 
 -- the list that the rows hold
 unfoldable pub viewMembers : Members → list.Members ℕ

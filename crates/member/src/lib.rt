@@ -1,4 +1,6 @@
 // The list of peers over its probing order: a record for each listed address, and the order in which they are probed.
+pub mod sound;
+
 use address::Address;
 use model::Refusal;
 use model::State;

@@ -44,3 +44,6 @@ pub mod Packing
 pub mod Closing
 pub mod Aside
 pub mod Padded
+pub mod Checks
+pub mod SoundList
+pub mod Picks
