@@ -24,6 +24,7 @@ use Rattle.member.specs.declared.Members.{Members}
 use Rattle.member.specs.Views.{toMember, fromMember, viewMembers, packMembers, Held}
 use Rattle.member.specs.Views as members
 use Rattle.member.specs.Packing as packing
+use Rattle.model.specs.Packing as rows
 use Rattle.timers.specs.declared.Timer.{Timer}
 use Rattle.timers.specs.declared.Timers.{Timers}
 use Rattle.timers.specs.Views.{toTimer, fromTimer, noTimer, timersView, packTimers}
@@ -114,25 +115,27 @@ pub record Ready (n : Node) : Type 0 where
   pub deceased : heaps.Packed (n .deceased)
   pub timers : timers.Packed (n .timers)
 
+-- what is packed is read back
+pub view-pack : (s : M.Node ℕ) → Whole (ipv4 .same) (s .members) → viewNode (packNode s) ≡ s
+unfolding packNode viewNode
+view-pack s w =
+    let t = packing.view-pack (s .members) (w .long) in
+    let a = heaps.view-pack (s .alive) in
+    let d = heaps.view-pack (s .deceased) in
+    let m = rows.view-pack toTimer fromTimer (λ x. refl) 16 noTimer (s .timers) in
+    λ i. record { settings = s .settings; own = s .own; members = t i; alive = a i; deceased = d i; timers = m i }
+
 -- a good node's rows are ready
 pub ready-pack : (s : M.Node ℕ) → Good ipv4 s → Ready (packNode s)
-unfolding packNode viewNode
+unfolding packNode
 ready-pack s g =
     record {
       good = rw (view-pack s (g .whole)) g;
       members = packing.held-pack (s .members) (g .whole);
       alive = heaps.packed-pack (s .alive) (g .alive .few);
       deceased = heaps.packed-pack (s .deceased) (g .deceased .few);
-      timers = Rattle.model.specs.Packing.packed-pack toTimer fromTimer 16 noTimer (s .timers) (g .few);
+      timers = rows.packed-pack toTimer fromTimer 16 noTimer (s .timers) (g .few);
     }
-  where
-    view-pack : (s₁ : M.Node ℕ) → Whole (ipv4 .same) (s₁ .members) → viewNode (packNode s₁) ≡ s₁
-    view-pack s₁ w =
-        let t = packing.view-pack (s₁ .members) (w .long) in
-        let a = heaps.view-pack (s₁ .alive) in
-        let d = heaps.view-pack (s₁ .deceased) in
-        let m = Rattle.model.specs.Packing.view-pack toTimer fromTimer (λ x. refl) 16 noTimer (s₁ .timers) in
-        λ i. record { settings = s₁ .settings; own = s₁ .own; members = t i; alive = a i; deceased = d i; timers = m i }
 
 -- arrays have their lengths, so the rows are full
 pub full-rows : (n : Node) → length (n .members .table) ≡ 64 → length (n .members .order) ≡ 64 → length (n .alive .entries) ≡ 128 → length (n .deceased .entries) ≡ 128 → length (n .timers .entries) ≡ 16
