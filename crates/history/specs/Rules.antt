@@ -18,7 +18,7 @@ use Rattle.model.specs.After.{After, halts, gives, after-map, after-when, after
 use Rattle.model.specs.Words.{Address, Lawful, isAlive, Member, Event, Nothing, Joined, Recovered, Suspected, Deceased, Gossip, Entry, Timer, noTimer}
 use Rattle.model.specs.Members.{Members, added, add, remove, update}
 use Rattle.model.specs.Node.{Node, Out, withMembers, withHeaps, withTimers, quiet, pushed, emitAlive, emitDeceased, lists, numbered, stateOf, change, leave}
-use Rattle.model.specs.Handler.{says, enter, joinedAt, joined, recovered, believed, suspected, deceased, item, admit, acked}
+use Rattle.model.specs.Handler.{says, enter, joinedAt, joined, recovered, believed, suspectedOther, suspected, deceased, item, admit, acked}
 use Rattle.model.specs.Detector.{suspect, ended, endAt}
 use Rattle.model.specs.Keeps.{after-plusOne, after-death}
 use Rattle.model.specs.Whole.{Whole}
@@ -134,7 +134,7 @@ module _ {A : Type 0} (address : Address A) (lawful : Lawful address) (a : A) wh
   believed-le state.Suspected x n e = omega (arith, ltb-true x n e)
 
   suspected-did : (f b : A) (n : ℕ) (s : Node A) (ds : List ℕ) → Whole (address .same) (s .members) → Runs s (Told (Suspected f b n)) (suspected address b n s ds)
-  unfolding suspected change
+  unfolding suspected suspectedOther change
   suspected-did f b n s ds w =
       after-when
       (λ e. after-plusOne n (λ next. alive-did _ s s (Told (Suspected f b n)) ds

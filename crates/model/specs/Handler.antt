@@ -47,14 +47,19 @@ module _ {A : Type 0} (address : Address A) where
   unfoldable pub believed : State → ℕ → ℕ → Bool
   believed st held n = pick (isAlive st) (leb held n) (ltb held n)
 
-  -- "Suspected, own address: emit Recovered with number + 1; own record unmoved. Other, listed: .. set Suspected, emit."
+  -- "Other, listed: if Alive and ≥, or not Alive and >, set Suspected, emit."
+  unfoldable pub suspectedOther : A → ℕ → Node A → List ℕ → Answer (Out A)
+  suspectedOther a n s ds =
+      when (lists address a s && believed (stateOf address a s) (numbered address a s) n)
+      (emitAlive address (says Suspected s a n) (change address a state.Suspected n s) ds)
+      (quiet s ds)
+
+  -- "Suspected, own address: emit Recovered with number + 1; own record unmoved."
   unfoldable pub suspected : A → ℕ → Node A → List ℕ → Answer (Out A)
   suspected a n s ds =
       when (address .same (s .own) a)
       (plusOne n λ next. emitAlive address (says Recovered s (s .own) next) s ds)
-      (when (lists address a s && believed (stateOf address a s) (numbered address a s) n)
-      (emitAlive address (says Suspected s a n) (change address a state.Suspected n s) ds)
-      (quiet s ds))
+      (suspectedOther a n s ds)
 
   -- "Deceased: listed and ≥: remove, emit to the deceased heap. The own address is no exception."
   unfoldable pub deceased : A → ℕ → Node A → List ℕ → Answer (Out A)

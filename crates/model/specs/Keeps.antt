@@ -25,7 +25,7 @@ use Rattle.model.specs.HeapTests.{push-in-order}
 use Rattle.model.specs.Choose.{termsOf, entryOf}
 use Rattle.model.specs.Members.{Members, addrs, added, add, strike, remove, update}
 use Rattle.model.specs.Node.{Node, Out, Effect, withMembers, withHeaps, withTimers, quiet, plusOne, deathPlusOne, andMore, pushed, emitAlive, emitDeceased, lists, numbered, stateOf, heldDeath, change, leave, spread, fresh}
-use Rattle.model.specs.Handler.{says, enter, joinedAt, joined, recovered, believed, suspected, deceased, item, gossip, admit, acked, answerTo, forwarded, handle}
+use Rattle.model.specs.Handler.{says, enter, joinedAt, joined, recovered, believed, suspectedOther, suspected, deceased, item, gossip, admit, acked, answerTo, forwarded, handle}
 use Rattle.model.specs.Sound.{inRange, Kind, AliveKind, DeceasedKind, ofKind, validGossip, soundEntry}
 use Rattle.model.specs.Whole.{Whole, added-whole, remove-whole, update-whole, put-addrs, strike-addrs, addrs-append}
 use Rattle.model.specs.Good.{Good, GoodHeap, ranges}
@@ -207,7 +207,7 @@ module _ {A : Type 0} (address : Address A) where
         after-when (λ _. emit-alive _ s _ ds (says-recovered s b n g v) (change-keeps b state.Alive n s g)) (λ _. quiet-keeps ds g)
 
     suspected-keeps : (b : A) (n : ℕ) (s : Node A) (ds : List ℕ) → Good address s → address .valid b ≡ true → KeepsOut s (suspected address b n s ds)
-    unfolding suspected
+    unfolding suspected suspectedOther
     suspected-keeps b n s ds g v =
         after-when
         (λ _. after-plusOne n (λ next. emit-alive _ s s ds (says-recovered s (s .own) next g (g .own)) (same-node g)))

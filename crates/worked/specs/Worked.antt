@@ -12,7 +12,7 @@ use Rattle.model.specs.Heap.{climbIn, climb, lower, downIn, down, push, sinkTop
 use Rattle.model.specs.Choose.{termsOf, wasNoted, takeTop, tryHeap, tryAlive, tryDeceased, over, rounds, choose}
 use Rattle.model.specs.Members.{shuffle, advance, added, add, remove, update, seek, pickFrom}
 use Rattle.model.specs.Node.{quiet, pushed, emitAlive, emitDeceased, change, leave, spread}
-use Rattle.model.specs.Handler.{believed, suspected, deceased}
+use Rattle.model.specs.Handler.{believed, suspectedOther, suspected, deceased}
 use Rattle.model.specs.Detector.{pinged, sendPing}
 use Rattle.worked.specs.Table.{Case, Holds, table}
 
@@ -22,7 +22,7 @@ pub data All : List Case → Type 1 where
 
 infixr 10 _and_
 pub worked : All table
-unfolding when swap leastFrom leastPower limitOf varintFrom varintLength numberSize sizeOver sizeOf digits textLength partsOf sameGossip climbIn climb lower downIn down push sinkTop removeTop termsOf wasNoted takeTop tryHeap tryAlive tryDeceased over rounds choose shuffle advance added add remove update seek pickFrom quiet pushed emitAlive emitDeceased change leave spread believed suspected deceased pinged sendPing
+unfolding when swap leastFrom leastPower limitOf varintFrom varintLength numberSize sizeOver sizeOf digits textLength partsOf sameGossip climbIn climb lower downIn down push sinkTop removeTop termsOf wasNoted takeTop tryHeap tryAlive tryDeceased over rounds choose shuffle advance added add remove update seek pickFrom quiet pushed emitAlive emitDeceased change leave spread believed suspectedOther suspected deceased pinged sendPing
 worked =
     refl and refl and refl and refl and refl and refl and refl and refl and refl and refl and refl and refl
     and refl and refl and refl and refl and refl and refl and refl and refl and refl and refl and refl and refl and end

@@ -1,0 +1,4 @@
+pub mod Views
+pub mod Ruling
+pub mod Nexts
+pub mod Entering

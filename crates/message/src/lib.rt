@@ -1,0 +1,2 @@
+// The handler: what a message does to a node, by value.
+pub mod rules;
