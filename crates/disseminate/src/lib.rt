@@ -118,8 +118,8 @@ pub fn terms_of(max_selected: usize, max_size: usize, limit: u64) -> Terms
 
 // The gossip chosen so far, each with the send count that it was noted with, and the bytes of all.
 pub struct Chosen {
-    pub rows: [Gossip; 64],
-    pub sent: [u64; 64],
+    pub rows: [Gossip; Chosen::CAPACITY],
+    pub sent: [u64; Chosen::CAPACITY],
     pub count: usize,
     pub size: u64,
 }
@@ -134,6 +134,9 @@ pub struct Choice {
 }
 
 impl Chosen {
+    // A message has at most 64 gossip records.
+    pub const CAPACITY: usize = 64;
+
     // Nothing is chosen yet.
     pub fn new() -> Chosen
         ensures { λ r. ⌜ r ≡ chosenNone ⌝ }
@@ -141,8 +144,8 @@ impl Chosen {
         let g = Gossip {
             event: Event::Nothing,
         };
-        let rows = [g; 64];
-        let sent = [0u64; 64];
+        let rows = [g; Chosen::CAPACITY];
+        let sent = [0u64; Chosen::CAPACITY];
         Chosen {
             rows,
             sent,
@@ -153,7 +156,13 @@ impl Chosen {
 }
 
 // Was an equal gossip noted with this send count? The last one noted is looked at first.
-fn noted(rows: [Gossip; 64], sent: [u64; 64], count: usize, g: Gossip, sends: u64) -> bool
+fn noted(
+    rows: [Gossip; Chosen::CAPACITY],
+    sent: [u64; Chosen::CAPACITY],
+    count: usize,
+    g: Gossip,
+    sends: u64,
+) -> bool
     requires { ⌜ count ≤ 64 ⌝ }
     ensures { λ r. ⌜ r ≡ wasNoted ipv4 (toGossip g) sends (notedOf rows sent count) ⌝ }
 {
@@ -286,7 +295,7 @@ fn over(held: usize, from_alive: usize, from_deceased: usize, t: Terms) -> bool
     t.deceased_share <= from_deceased
 }
 
-// Gossip for one message: rounds of one try at each heap, while one of them gives.
+// Gossip for one message: rounds of one try at each heap, while one of them gives. Each but the last chooses one at least.
 pub fn choose(alive: Heap, deceased: Heap, t: Terms) -> Choice
     requires { ⌜ Packed alive × Packed deceased × GoodHeap ipv4 AliveKind (heapView alive) × GoodHeap ipv4 DeceasedKind (heapView deceased) × (t .«max_size» ≤ 1400) × (t .limit ≤ 23) ⌝ }
     ensures { λ r. ⌜ r ≡ packChoice (chosenFrom ipv4 (toTerms t) (heapView alive) (heapView deceased)) ⌝ }
@@ -298,7 +307,7 @@ pub fn choose(alive: Heap, deceased: Heap, t: Terms) -> Choice
         from_alive: 0,
         from_deceased: 0,
     };
-    let mut left: usize = 64;
+    let mut left = Chosen::CAPACITY;
     while 0 < left {
         let held = c.alive.len + c.deceased.len;
         if over(held, c.from_alive, c.from_deceased, t) {
