@@ -117,7 +117,7 @@ module _ (n : Chosen) (p : PackedChosen n) (e : Entry) (room : n .count < 64) wh
         noted-frame (n .rows) (n .sent) (n .count) (n .count) (e .gossip) (e .sends + 1) (le-refl (n .count)),
       )
 
-  pub noted-one : (r : Chosen) → r ≡ after → NotedOne n (toEntry e) r
+  pub noted-one : (r : Chosen) → r ≡ after → NotedOne n (toGossip (e .gossip)) (e .sends + 1) (e .size) r
   noted-one r q =
       rw q
       (record {

@@ -6,11 +6,12 @@ use mathlib.Core.List.{List, [], _∷_, _++_}
 use mathlib.Core.Option.{Option, none, some}
 use Prim.Native.Nat.{ℕ, zero, suc, _+_, _-_, _*_, _≤_, _<_}
 use native.Mathlib.Omega.{arith}
+use native.Mathlib.Nat.{add-zero}
 use lib.Dec.{ltb, leb}
 use lib.ListN.{length, getD, drop, take, List·getD-map}
 use lib.Seq.{drop-cons, getD-take}
 use borrow.Author.Tests.{ltb-false, leb-true}
-use Rattle.model.specs.Rows.{every}
+use Rattle.model.specs.Rows.{every, one}
 use Rattle.model.specs.IPv4.{ipv4}
 use Rattle.model.specs.Words as W
 use Rattle.model.specs.Bools.{and-split}
@@ -19,13 +20,15 @@ use Rattle.model.specs.Choose.{wasNoted, takeTop, tryHeap, tryAlive, tryDecease
 use Rattle.model.specs.ChooseLaws.{atLeast}
 use Rattle.model.specs.Sound.{Kind, AliveKind, DeceasedKind, soundEntry}
 use Rattle.model.specs.Good.{GoodHeap}
+use Rattle.types.specs.Views.{toGossip}
 use Rattle.heap.specs.declared.Entry.{Entry}
 use Rattle.heap.specs.declared.Heap.{Heap}
 use Rattle.heap.specs.Views.{toEntry, noEntry, heapView, packHeap, Packed, view-length, view-pack, packed-pack}
 use Rattle.disseminate.specs.declared.Terms.{Terms}
 use Rattle.disseminate.specs.declared.Chosen.{Chosen}
 use Rattle.disseminate.specs.declared.Choice.{Choice}
-use Rattle.disseminate.specs.Views.{noted, toTerms, choiceView, PackedChosen, NotedOne, Kept, Ready}
+use Rattle.disseminate.specs.declared.Tried.{Tried}
+use Rattle.disseminate.specs.Views.{noted, toTerms, choiceView, PackedChosen, NotedOne, Open, Outcome, Kept, Ready}
 use Rattle.disseminate.proofs.Noting.{chosen-length}
 use Rattle.disseminate.proofs.Trying.{try-empty, try-barred, try-takes, kept-alive, kept-deceased, sound-most}
 
@@ -59,157 +62,132 @@ pub or-right : (u v : Bool) → u ≡ false → v ≡ (u || v)
 or-right true v e = cc
 or-right false v e = refl
 
-module _ (t : Terms) (c : Choice) (r : Ready t c) where
+-- a try of the code: what it asks of its calls, and its ways out
+module _ (t : Terms) (h : Heap) (n : Chosen) (o : Open t h n) where
+  abbrev pub tried : Option (M.Taken ℕ)
+  tried = tryHeap ipv4 (toTerms t) (n .size) (noted (n .rows) (n .sent) (n .count)) (heapView h)
+
+  outcome : (r : Tried) (x : Option (M.Taken ℕ)) → tried ≡ x → Outcome h n r x → Outcome h n r tried
+  outcome r x e w = subst (Outcome h n r) (sym e) w
+
+  pub gives-none : h .len ≡ 0 → Outcome h n (record { heap = h; chosen = n; gave = false }) tried
+  gives-none e = outcome _ none (try-empty (toTerms t) _ _ (heapView h) (view-length h (o .heap) ∙ e)) refl
+
+  pub in-size : n .size ≤ 1400
+  in-size = omega (arith, o .fits, o .size)
+
   -- what stops an entry
   abbrev pub barrier : Entry → Bool
   barrier e =
-      ltb (t .«max_size») (c .chosen .size + e .size)
-      || wasNoted ipv4 (toEntry e .gossip) (e .sends) (noted (c .chosen .rows) (c .chosen .sent) (c .chosen .count))
+      ltb (t .«max_size») (n .size + e .size)
+      || wasNoted ipv4 (toEntry e .gossip) (e .sends) (noted (n .rows) (n .sent) (n .count))
 
-  pub in-size : c .chosen .size ≤ 1400
-  in-size = omega (arith, r .kept .within .fits, r .size)
+  module _ (held : 0 < h .len) where
+    pub top-small : (top h (o .heap) held .size ≤ 1400) × (top h (o .heap) held .sends ≤ 22)
+    top-small = let m = o .top held in (omega (arith, m .1), m .2)
 
-  -- an entry of 24 bytes that is not stopped finds room: 58 of them are the most
-  pub finds-room : (e : Entry) → 24 ≤ e .size → barrier e ≡ false → c .chosen .count < 64
-  finds-room e h b =
-      let f : c .chosen .size + e .size ≤ t .«max_size» = ltb-false (t .«max_size») (c .chosen .size + e .size) (or-left _ _ b) in
-      omega (arith, r .kept .within .counted, chosen-length (c .chosen) (r .chosen), r .size)
+    -- an entry of 24 bytes that is not stopped finds room: 58 of them are the most
+    pub finds-room : barrier (top h (o .heap) held) ≡ false → n .count < 64
+    finds-room b =
+        let f : n .size + top h (o .heap) held .size ≤ t .«max_size» = ltb-false (t .«max_size») (n .size + top h (o .heap) held .size) (or-left _ _ b) in
+        let m = o .top held in
+        omega (arith, m .0, o .counted, o .size)
+
+    pub stopped : barrier (top h (o .heap) held) ≡ true → Outcome h n (record { heap = h; chosen = n; gave = false }) tried
+    stopped b = outcome _ none (try-barred (toTerms t) _ _ (heapView h) _ _ (top-view h (o .heap) held) b) refl
+
+    pub takes :
+        (a : Heap) (c : Chosen) →
+        barrier (top h (o .heap) held) ≡ false →
+        a ≡ packHeap (takeTop ipv4 (t .limit) (toEntry (top h (o .heap) held)) (heapView h) .heap) →
+        NotedOne n (toGossip (top h (o .heap) held .gossip)) (top h (o .heap) held .sends + 1) (top h (o .heap) held .size) c →
+        Outcome h n (record { heap = a; chosen = c; gave = true }) tried
+    unfolding takeTop
+    takes a c b q w = outcome _ (some _) (try-takes (toTerms t) _ _ (heapView h) _ _ (top-view h (o .heap) held) b) (q, w, refl)
+
+-- what a choosing is after a try at the heap of the living, and of the dead
+abbrev pub with-alive : Choice → Tried → Choice
+with-alive c x =
+    record {
+      alive = x .heap;
+      deceased = c .deceased;
+      chosen = x .chosen;
+      «from_alive» = c .«from_alive» + one (x .gave);
+      «from_deceased» = c .«from_deceased»;
+    }
+
+abbrev pub with-deceased : Choice → Tried → Choice
+with-deceased c x =
+    record {
+      alive = c .alive;
+      deceased = x .heap;
+      chosen = x .chosen;
+      «from_alive» = c .«from_alive»;
+      «from_deceased» = c .«from_deceased» + one (x .gave);
+    }
+
+-- a choosing that is ready may try either heap
+module _ (t : Terms) (c : Choice) (r : Ready t c) where
+  open-at : (k : Kind) (h : Heap) → Packed h → GoodHeap ipv4 k (heapView h) → every (atLeast ipv4 24) (heapView h) ≡ true → Open t h (c .chosen)
+  open-at k h p g l =
+      record {
+        heap = p;
+        top = λ held. let m = top-most h p held k g in (top-least h p held l, m .0, m .1);
+        chosen = r .chosen;
+        counted = omega (arith, r .kept .within .counted, chosen-length (c .chosen) (r .chosen));
+        fits = r .kept .within .fits;
+        size = r .size;
+      }
+
+  pub open-alive : Open t (c .alive) (c .chosen)
+  open-alive = open-at AliveKind (c .alive) (r .alive) (r .kept .heaps .alive) (r .kept .within .alive)
+
+  pub open-deceased : Open t (c .deceased) (c .chosen)
+  open-deceased = open-at DeceasedKind (c .deceased) (r .deceased) (r .kept .heaps .deceased) (r .kept .within .deceased)
 
   pub counts-fit : (c .«from_alive» ≤ 64) × (c .«from_deceased» ≤ 64)
   counts-fit =
       let l = chosen-length (c .chosen) (r .chosen) in
       (omega (arith, l, r .kept .living, r .chosen .few), omega (arith, l, r .kept .dead, r .chosen .few))
 
-  -- the heap of the living
-  pub alive-none : c .alive .len ≡ 0 → (choiceView c ≡ afterAlive ipv4 (choiceView c) (tryAlive ipv4 (toTerms t) (choiceView c))) × Ready t c
+  abbrev AliveTried : Choice → Type 0
+  AliveTried b = (choiceView b ≡ afterAlive ipv4 (choiceView c) (tryAlive ipv4 (toTerms t) (choiceView c))) × Ready t b
+
+  pub alive-tried : (x : Tried) → Outcome (c .alive) (c .chosen) x (tried t (c .alive) (c .chosen) open-alive) → AliveTried (with-alive c x)
   unfolding tryAlive
-  alive-none e = (
-    sym (ap (afterAlive ipv4 (choiceView c)) (try-empty (toTerms t) _ _ (heapView (c .alive)) (view-length (c .alive) (r .alive) ∙ e))),
-    r,
-  )
+  alive-tried x = go (tryAlive ipv4 (toTerms t) (choiceView c)) refl
+    where
+      go : (y : Option (M.Taken ℕ)) → tryAlive ipv4 (toTerms t) (choiceView c) ≡ y → Outcome (c .alive) (c .chosen) x y → AliveTried (with-alive c x)
+      go none e w =
+          let q : c .«from_alive» + one (x .gave) ≡ c .«from_alive» = ap (λ (y : Tried). c .«from_alive» + one (y .gave)) w ∙ add-zero (c .«from_alive») in
+          let same : with-alive c x ≡ c = λ i. record { alive = w i .heap; deceased = c .deceased; chosen = w i .chosen; «from_alive» = q i; «from_deceased» = c .«from_deceased» } in
+          subst AliveTried (sym same) (sym (ap (afterAlive ipv4 (choiceView c)) e), r)
+      go (some k) e w =
+          let q : c .«from_alive» + one (x .gave) ≡ c .«from_alive» + 1 = ap (λ (b : Bool). c .«from_alive» + one b) (w .2) in
+          let h : heapView (x .heap) ≡ k .heap = ap heapView (w .0) ∙ view-pack (k .heap) in
+          let viewed : choiceView (with-alive c x) ≡ afterAlive ipv4 (choiceView c) (some k) = λ i. record { alive = h i; deceased = heapView (c .deceased); chosen = w .1 .chosen i; noted = w .1 .noted i; from-alive = q i; from-deceased = c .«from_deceased»; size = w .1 .size i } in
+          let kept : Kept (toTerms t) (afterAlive ipv4 (choiceView c) (some k)) = kept-alive (toTerms t) (r .limit) (choiceView c) (some k) e (r .kept) in (
+            viewed ∙ sym (ap (afterAlive ipv4 (choiceView c)) e),
+            record { alive = subst Packed (sym (w .0)) (packed-pack (k .heap) (kept .heaps .alive .few)); deceased = r .deceased; chosen = w .1 .packed; size = r .size; limit = r .limit; kept = subst (Kept (toTerms t)) (sym viewed) kept },
+          )
 
-  module _ (held : 0 < c .alive .len) where
-    abbrev pub alive-top : Entry
-    alive-top = getD (c .alive .entries) 0 noEntry
+  abbrev DeceasedTried : Choice → Type 0
+  DeceasedTried b = (choiceView b ≡ afterDeceased ipv4 (choiceView c) (tryDeceased ipv4 (toTerms t) (choiceView c))) × Ready t b
 
-    pub alive-asks : (alive-top .size ≤ 1400) × (alive-top .sends ≤ 22)
-    alive-asks =
-        let m = top-most (c .alive) (r .alive) held AliveKind (r .kept .heaps .alive) in
-        (omega (arith, m .0), m .1)
-
-    pub alive-room : barrier alive-top ≡ false → c .chosen .count < 64
-    alive-room b = finds-room alive-top (top-least (c .alive) (r .alive) held (r .kept .within .alive)) b
-
-    pub alive-barred :
-        barrier alive-top ≡ true →
-        (choiceView c ≡ afterAlive ipv4 (choiceView c) (tryAlive ipv4 (toTerms t) (choiceView c))) × Ready t c
-    unfolding tryAlive
-    alive-barred b = (
-      sym (ap (afterAlive ipv4 (choiceView c)) (try-barred (toTerms t) _ _ (heapView (c .alive)) _ _ (top-view (c .alive) (r .alive) held) b)),
-      r,
-    )
-
-    module _
-        (b : barrier alive-top ≡ false)
-        (h : Heap)
-        (n : Chosen)
-        (q : h ≡ packHeap (takeTop ipv4 (t .limit) (toEntry alive-top) (heapView (c .alive)) .heap))
-        (o : NotedOne (c .chosen) (toEntry alive-top) n)
-      where
-        abbrev pub alive-after : Choice
-        alive-after =
-            record { alive = h; deceased = c .deceased; chosen = n; «from_alive» = c .«from_alive» + 1; «from_deceased» = c .«from_deceased» }
-
-        alive-tried : tryAlive ipv4 (toTerms t) (choiceView c) ≡ some (takeTop ipv4 (t .limit) (toEntry alive-top) (heapView (c .alive)))
-        unfolding tryAlive
-        alive-tried = try-takes (toTerms t) _ _ (heapView (c .alive)) _ _ (top-view (c .alive) (r .alive) held) b
-
-        alive-viewed : choiceView alive-after ≡ afterAlive ipv4 (choiceView c) (some (takeTop ipv4 (t .limit) (toEntry alive-top) (heapView (c .alive))))
-        unfolding takeTop
-        alive-viewed =
-            let a : heapView h ≡ takeTop ipv4 (t .limit) (toEntry alive-top) (heapView (c .alive)) .heap = ap heapView q ∙ view-pack _ in
-            λ i. record { alive = a i; deceased = heapView (c .deceased); chosen = o .chosen i; noted = o .noted i; from-alive = c .«from_alive» + 1; from-deceased = c .«from_deceased»; size = o .size i }
-
-        alive-kept : Kept (toTerms t) (afterAlive ipv4 (choiceView c) (some (takeTop ipv4 (t .limit) (toEntry alive-top) (heapView (c .alive)))))
-        alive-kept = kept-alive (toTerms t) (r .limit) (choiceView c) _ alive-tried (r .kept)
-
-        pub alive-takes :
-            (choiceView alive-after ≡ afterAlive ipv4 (choiceView c) (tryAlive ipv4 (toTerms t) (choiceView c))) × Ready t alive-after
-        alive-takes = (
-          alive-viewed ∙ sym (ap (afterAlive ipv4 (choiceView c)) alive-tried),
-          record {
-            alive = subst Packed (sym q) (packed-pack (takeTop ipv4 (t .limit) (toEntry alive-top) (heapView (c .alive)) .heap) (alive-kept .heaps .alive .few));
-            deceased = r .deceased;
-            chosen = o .packed;
-            size = r .size;
-            limit = r .limit;
-            kept = subst (Kept (toTerms t)) (sym alive-viewed) alive-kept;
-          },
-        )
-
-  -- the heap of the dead
-  pub dead-none : c .deceased .len ≡ 0 → (choiceView c ≡ afterDeceased ipv4 (choiceView c) (tryDeceased ipv4 (toTerms t) (choiceView c))) × Ready t c
+  pub deceased-tried : (x : Tried) → Outcome (c .deceased) (c .chosen) x (tried t (c .deceased) (c .chosen) open-deceased) → DeceasedTried (with-deceased c x)
   unfolding tryDeceased
-  dead-none e = (
-    sym (ap (afterDeceased ipv4 (choiceView c)) (try-empty (toTerms t) _ _ (heapView (c .deceased)) (view-length (c .deceased) (r .deceased) ∙ e))),
-    r,
-  )
-
-  module _ (held : 0 < c .deceased .len) where
-    abbrev pub dead-top : Entry
-    dead-top = getD (c .deceased .entries) 0 noEntry
-
-    pub dead-asks : (dead-top .size ≤ 1400) × (dead-top .sends ≤ 22)
-    dead-asks =
-        let m = top-most (c .deceased) (r .deceased) held DeceasedKind (r .kept .heaps .deceased) in
-        (omega (arith, m .0), m .1)
-
-    pub dead-room : barrier dead-top ≡ false → c .chosen .count < 64
-    dead-room b = finds-room dead-top (top-least (c .deceased) (r .deceased) held (r .kept .within .deceased)) b
-
-    pub dead-barred :
-        barrier dead-top ≡ true →
-        (choiceView c ≡ afterDeceased ipv4 (choiceView c) (tryDeceased ipv4 (toTerms t) (choiceView c))) × Ready t c
-    unfolding tryDeceased
-    dead-barred b = (
-      sym (ap (afterDeceased ipv4 (choiceView c)) (try-barred (toTerms t) _ _ (heapView (c .deceased)) _ _ (top-view (c .deceased) (r .deceased) held) b)),
-      r,
-    )
-
-    module _
-        (b : barrier dead-top ≡ false)
-        (h : Heap)
-        (n : Chosen)
-        (q : h ≡ packHeap (takeTop ipv4 (t .limit) (toEntry dead-top) (heapView (c .deceased)) .heap))
-        (o : NotedOne (c .chosen) (toEntry dead-top) n)
-      where
-        abbrev pub dead-after : Choice
-        dead-after =
-            record { alive = c .alive; deceased = h; chosen = n; «from_alive» = c .«from_alive»; «from_deceased» = c .«from_deceased» + 1 }
-
-        dead-tried : tryDeceased ipv4 (toTerms t) (choiceView c) ≡ some (takeTop ipv4 (t .limit) (toEntry dead-top) (heapView (c .deceased)))
-        unfolding tryDeceased
-        dead-tried = try-takes (toTerms t) _ _ (heapView (c .deceased)) _ _ (top-view (c .deceased) (r .deceased) held) b
-
-        dead-viewed : choiceView dead-after ≡ afterDeceased ipv4 (choiceView c) (some (takeTop ipv4 (t .limit) (toEntry dead-top) (heapView (c .deceased))))
-        unfolding takeTop
-        dead-viewed =
-            let a : heapView h ≡ takeTop ipv4 (t .limit) (toEntry dead-top) (heapView (c .deceased)) .heap = ap heapView q ∙ view-pack _ in
-            λ i. record { alive = heapView (c .alive); deceased = a i; chosen = o .chosen i; noted = o .noted i; from-alive = c .«from_alive»; from-deceased = c .«from_deceased» + 1; size = o .size i }
-
-        dead-kept : Kept (toTerms t) (afterDeceased ipv4 (choiceView c) (some (takeTop ipv4 (t .limit) (toEntry dead-top) (heapView (c .deceased)))))
-        dead-kept = kept-deceased (toTerms t) (r .limit) (choiceView c) _ dead-tried (r .kept)
-
-        pub dead-takes :
-            (choiceView dead-after ≡ afterDeceased ipv4 (choiceView c) (tryDeceased ipv4 (toTerms t) (choiceView c))) × Ready t dead-after
-        dead-takes = (
-          dead-viewed ∙ sym (ap (afterDeceased ipv4 (choiceView c)) dead-tried),
-          record {
-            alive = r .alive;
-            deceased = subst Packed (sym q) (packed-pack (takeTop ipv4 (t .limit) (toEntry dead-top) (heapView (c .deceased)) .heap) (dead-kept .heaps .deceased .few));
-            chosen = o .packed;
-            size = r .size;
-            limit = r .limit;
-            kept = subst (Kept (toTerms t)) (sym dead-viewed) dead-kept;
-          },
-        )
+  deceased-tried x = go (tryDeceased ipv4 (toTerms t) (choiceView c)) refl
+    where
+      go : (y : Option (M.Taken ℕ)) → tryDeceased ipv4 (toTerms t) (choiceView c) ≡ y → Outcome (c .deceased) (c .chosen) x y → DeceasedTried (with-deceased c x)
+      go none e w =
+          let q : c .«from_deceased» + one (x .gave) ≡ c .«from_deceased» = ap (λ (y : Tried). c .«from_deceased» + one (y .gave)) w ∙ add-zero (c .«from_deceased») in
+          let same : with-deceased c x ≡ c = λ i. record { alive = c .alive; deceased = w i .heap; chosen = w i .chosen; «from_alive» = c .«from_alive»; «from_deceased» = q i } in
+          subst DeceasedTried (sym same) (sym (ap (afterDeceased ipv4 (choiceView c)) e), r)
+      go (some k) e w =
+          let q : c .«from_deceased» + one (x .gave) ≡ c .«from_deceased» + 1 = ap (λ (b : Bool). c .«from_deceased» + one b) (w .2) in
+          let h : heapView (x .heap) ≡ k .heap = ap heapView (w .0) ∙ view-pack (k .heap) in
+          let viewed : choiceView (with-deceased c x) ≡ afterDeceased ipv4 (choiceView c) (some k) = λ i. record { alive = heapView (c .alive); deceased = h i; chosen = w .1 .chosen i; noted = w .1 .noted i; from-alive = c .«from_alive»; from-deceased = q i; size = w .1 .size i } in
+          let kept : Kept (toTerms t) (afterDeceased ipv4 (choiceView c) (some k)) = kept-deceased (toTerms t) (r .limit) (choiceView c) (some k) e (r .kept) in (
+            viewed ∙ sym (ap (afterDeceased ipv4 (choiceView c)) e),
+            record { alive = r .alive; deceased = subst Packed (sym (w .0)) (packed-pack (k .heap) (kept .heaps .deceased .few)); chosen = w .1 .packed; size = r .size; limit = r .limit; kept = subst (Kept (toTerms t)) (sym viewed) kept },
+          )

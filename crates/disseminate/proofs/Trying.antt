@@ -43,11 +43,6 @@ module _ (t : Terms) (size : ℕ) (noted : List (W.Gossip ℕ × ℕ)) where
         ∙ ap (λ (u : Bool). pick u none (some (takeTop ipv4 (t .limit) e (e ∷ es)))) b
         ∙ ap (λ (l : List (W.Entry ℕ)). some (takeTop ipv4 (t .limit) e l)) (sym is)
 
--- a taken top goes or sinks
-module _ (limit : ℕ) (e : W.Entry ℕ) (h : List (W.Entry ℕ)) where
-  abbrev more : W.Entry ℕ
-  more = record { gossip = e .gossip; sends = e .sends + 1; size = e .size }
-
 -- every try keeps what holds of a choosing
 module _ (t : Terms) (limited : t .limit ≤ 23) where
   living-more : (c : Choice ℕ) (k : Taken ℕ) → Kept t c → Gave ipv4 t (c .size) (c .alive) k → Kept t (afterAlive ipv4 c (some k))
@@ -115,11 +110,6 @@ module _ (t : Terms) (m : Choice ℕ) where
   taken-by (some j) (some k) =
       omega (arith, length-append (m .chosen ++ (j .gossip ∷ [])) (k .gossip ∷ []), length-append (m .chosen) (j .gossip ∷ []))
 
-  same-choice : (a b : Option (Taken ℕ)) → one (gave ipv4 a) ≡ 0 → one (gave ipv4 b) ≡ 0 → afterDeceased ipv4 (afterAlive ipv4 m a) b ≡ m
-  same-choice none none p q = refl
-  same-choice none (some k) p q = absurd (omega arith)
-  same-choice (some j) b p q = absurd (omega arith)
-
   neither : (u v : Bool) → one u ≡ 0 → one v ≡ 0 → (u || v) ≡ false
   neither false false p q = refl
   neither false true p q = absurd (omega arith)
@@ -141,11 +131,11 @@ module _ (t : Terms) (m : Choice ℕ) where
   rounds-over f p = stepped f true (gave ipv4 first || gave ipv4 second) p refl
 
   -- where as many are chosen as before, neither heap gave one
-  pub rounds-stop : (f : ℕ) → over ipv4 t m ≡ false → length (turned .chosen) ≡ length (m .chosen) → turned ≡ rounds ipv4 (suc f) t m
+  pub rounds-stop : (f : ℕ) → over ipv4 t m ≡ false → length (turned .chosen) ≡ length (m .chosen) → rounds ipv4 (suc f) t m ≡ m
   rounds-stop f p e =
       let a : one (gave ipv4 first) ≡ 0 = omega (arith, taken-by first second) in
       let b : one (gave ipv4 second) ≡ 0 = omega (arith, taken-by first second) in
-      same-choice first second a b ∙ sym (stepped f false false p (neither (gave ipv4 first) (gave ipv4 second) a b))
+      stepped f false false p (neither (gave ipv4 first) (gave ipv4 second) a b)
 
   pub rounds-more : (f : ℕ) → over ipv4 t m ≡ false → (length (turned .chosen) ≡ length (m .chosen) → ⊥) → rounds ipv4 (suc f) t m ≡ rounds ipv4 f t turned
   rounds-more f p n =

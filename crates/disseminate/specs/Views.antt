@@ -4,7 +4,7 @@ use mathlib.Core.Path.{_≡_}
 use mathlib.Core.Bool.{true, false}
 use mathlib.Core.List.{List, [], _∷_, _++_, map}
 use mathlib.Core.Option.{Option, none, some}
-use Prim.Native.Nat.{ℕ, zero, suc, _+_, _≤_, _<_}
+use Prim.Native.Nat.{ℕ, zero, suc, _+_, _*_, _≤_, _<_}
 use lib.ListN.{length, getD, take, replicate}
 use Rattle.model.specs.Rows.{padTo}
 use Rattle.model.specs.Answers.{Answer, refused, done}
@@ -16,13 +16,14 @@ use Rattle.types.specs.declared.Gossip.{Gossip}
 use Rattle.types.specs.Views.{toGossip, fromGossip, noGossip, to-from-gossip}
 use Rattle.model.specs.Packing.{view-pack}
 use Rattle.heap.specs.declared.Heap.{Heap}
-use Rattle.heap.specs.Views.{heapView, packHeap, Packed}
+use Rattle.heap.specs.Views.{noEntry, heapView, packHeap, Packed}
 use Rattle.disseminate.specs.declared.Pushed.{Pushed}
 use Rattle.disseminate.specs.declared.Found.{Found}
 use Rattle.disseminate.specs.declared.Found.the-variants.{Missing, At}
 use Rattle.disseminate.specs.declared.Terms.{Terms}
 use Rattle.disseminate.specs.declared.Chosen.{Chosen}
 use Rattle.disseminate.specs.declared.Choice.{Choice}
+use Rattle.disseminate.specs.declared.Tried.{Tried}
 
 -- a heap after a push that was not refused, or the heap as it came
 abbrev pub heldOr : Heap → Answer (List (W.Entry ℕ)) → Pushed
@@ -104,12 +105,27 @@ pub record PackedChosen (n : Chosen) : Type 0 where
   pub rows : n .rows ≡ padTo 64 noGossip (take (n .count) (n .rows))
   pub sent : n .sent ≡ padTo 64 0 (take (n .count) (n .sent))
 
--- one more is chosen and noted
-pub record NotedOne (n : Chosen) (e : W.Entry ℕ) (r : Chosen) : Type 0 where
+-- one more is chosen: a gossip, noted with a send count, of a size
+pub record NotedOne (n : Chosen) (g : W.Gossip ℕ) (s z : ℕ) (r : Chosen) : Type 0 where
   pub packed : PackedChosen r
-  pub chosen : chosenView r ≡ chosenView n ++ (e .gossip ∷ [])
-  pub noted : noted (r .rows) (r .sent) (r .count) ≡ (e .gossip, e .sends + 1) ∷ noted (n .rows) (n .sent) (n .count)
-  pub size : r .size ≡ n .size + e .size
+  pub chosen : chosenView r ≡ chosenView n ++ (g ∷ [])
+  pub noted : noted (r .rows) (r .sent) (r .count) ≡ (g, s) ∷ noted (n .rows) (n .sent) (n .count)
+  pub size : r .size ≡ n .size + z
+
+-- what a try asks for: the heap's top is an entry as a good heap holds them, and what is chosen fits, 24 bytes each at least
+pub record Open (t : Terms) (h : Heap) (n : Chosen) : Type 0 where
+  pub heap : Packed h
+  pub top : 0 < h .len → (24 ≤ getD (h .entries) 0 noEntry .size) × (getD (h .entries) 0 noEntry .size ≤ 59) × (getD (h .entries) 0 noEntry .sends ≤ 22)
+  pub chosen : PackedChosen n
+  pub counted : 24 * n .count ≤ n .size
+  pub fits : n .size ≤ t .«max_size»
+  pub size : t .«max_size» ≤ 1400
+
+-- what a try came to
+abbrev pub Outcome : Heap → Chosen → Tried → Option (M.Taken ℕ) → Type 0
+Outcome h n r none = r ≡ record { heap = h; chosen = n; gave = false }
+Outcome h n r (some k) =
+    (r .heap ≡ packHeap (k .heap)) × NotedOne n (k .gossip) (k .sends) (k .size) (r .chosen) × (r .gave ≡ true)
 
 -- what holds of a choosing at each step: good heaps, and chosen gossip that fits, 24 bytes each at least
 pub record Kept (t : M.Terms) (m : M.Choice ℕ) : Type 0 where

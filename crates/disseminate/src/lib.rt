@@ -10,15 +10,16 @@ ghost use mathlib.Core.Bool.{Bool, true, false, _&&_, _||_};
 ghost use mathlib.Core.List.{[]};
 ghost use Prim.Native.Nat.{ℕ, _+_, _≤_, _<_};
 ghost use lib.Dec.{eqb, leb, ltb};
+ghost use Rattle.model.specs.Rows.{one};
 ghost use Rattle.model.specs.IPv4.{ipv4};
 ghost use Rattle.model.specs.Limit.{limitOf};
-ghost use Rattle.model.specs.Choose.{wasNoted, takeTop, tryAlive, tryDeceased, afterAlive, afterDeceased, termsOf, choose as chosenFrom, deathIn, death as deathOf};
+ghost use Rattle.model.specs.Choose.{wasNoted, takeTop, tryHeap, termsOf, choose as chosenFrom, deathIn, death as deathOf};
 ghost use Rattle.model.specs.Node.{pushed};
 ghost use Rattle.model.specs.Sound.{AliveKind, DeceasedKind, inRange};
 ghost use Rattle.model.specs.Good.{GoodHeap};
 ghost use Rattle.types.specs.Views.{toGossip};
 ghost use Rattle.heap.specs.Views.{toEntry, heapView, packHeap, Packed};
-ghost use Rattle.disseminate.specs.Views.{noted as notedOf, toTerms, fromTerms, chosenNone, choiceView, packChoice, PackedChosen, NotedOne, Ready, heldOr, fromFound};
+ghost use Rattle.disseminate.specs.Views.{noted as notedOf, toTerms, fromTerms, chosenNone, packChoice, PackedChosen, NotedOne, Open, Outcome, heldOr, fromFound};
 
 // A gossip pushed to a heap, or the heap as it came where it was full.
 pub struct Pushed {
@@ -118,8 +119,8 @@ pub fn terms_of(max_selected: usize, max_size: usize, limit: u64) -> Terms
 
 // The gossip chosen so far, each with the send count that it was noted with, and the bytes of all.
 pub struct Chosen {
-    pub rows: [Gossip; 64],
-    pub sent: [u64; 64],
+    pub rows: [Gossip; Chosen::CAPACITY],
+    pub sent: [u64; Chosen::CAPACITY],
     pub count: usize,
     pub size: u64,
 }
@@ -134,6 +135,9 @@ pub struct Choice {
 }
 
 impl Chosen {
+    // A message has at most 64 gossip records.
+    pub const CAPACITY: usize = 64;
+
     // Nothing is chosen yet.
     pub fn new() -> Chosen
         ensures { λ r. ⌜ r ≡ chosenNone ⌝ }
@@ -141,8 +145,8 @@ impl Chosen {
         let g = Gossip {
             event: Event::Nothing,
         };
-        let rows = [g; 64];
-        let sent = [0u64; 64];
+        let rows = [g; Chosen::CAPACITY];
+        let sent = [0u64; Chosen::CAPACITY];
         Chosen {
             rows,
             sent,
@@ -153,7 +157,13 @@ impl Chosen {
 }
 
 // Was an equal gossip noted with this send count? The last one noted is looked at first.
-fn noted(rows: [Gossip; 64], sent: [u64; 64], count: usize, g: Gossip, sends: u64) -> bool
+fn noted(
+    rows: [Gossip; Chosen::CAPACITY],
+    sent: [u64; Chosen::CAPACITY],
+    count: usize,
+    g: Gossip,
+    sends: u64,
+) -> bool
     requires { ⌜ count ≤ 64 ⌝ }
     ensures { λ r. ⌜ r ≡ wasNoted ipv4 (toGossip g) sends (notedOf rows sent count) ⌝ }
 {
@@ -186,7 +196,7 @@ fn barred(n: Chosen, top: Entry, max_size: u64) -> bool
 // An entry is chosen, and noted with one send more.
 fn note(n: Chosen, top: Entry) -> Chosen
     requires { ⌜ PackedChosen n × (n .count < 64) × (n .size ≤ 1400) × (top .size ≤ 1400) × (top .sends ≤ 22) ⌝ }
-    ensures { λ r. ⌜ NotedOne n (toEntry top) r ⌝ }
+    ensures { λ r. ⌜ NotedOne n (toGossip (top .gossip)) (top .sends + 1) (top .size) r ⌝ }
 {
     let count = n.count;
     let mut rows = n.rows;
@@ -219,58 +229,49 @@ fn after_top(h: Heap, top: Entry, limit: u64) -> Heap
     })
 }
 
-// One try at the heap of the living.
-fn try_alive(c: Choice, t: Terms) -> Choice
-    requires { ⌜ Ready t c ⌝ }
-    ensures { λ r. ⌜ (choiceView r ≡ afterAlive ipv4 (choiceView c) (tryAlive ipv4 (toTerms t) (choiceView c))) × Ready t r ⌝ }
+// What one try at a heap gives: both as they came where it gave none.
+pub struct Tried {
+    pub heap: Heap,
+    pub chosen: Chosen,
+    pub gave: bool,
+}
+
+// One try at a heap.
+fn try_heap(h: Heap, n: Chosen, t: Terms) -> Tried
+    requires { ⌜ Open t h n ⌝ }
+    ensures { λ r. ⌜ Outcome h n r (tryHeap ipv4 (toTerms t) (n .size) (notedOf (n .rows) (n .sent) (n .count)) (heapView h)) ⌝ }
 {
-    let h = c.alive;
-    let n = c.chosen;
     if h.len == 0 {
-        return c;
+        return Tried {
+            heap: h,
+            chosen: n,
+            gave: false,
+        };
     }
     let es = h.entries;
     let top = es[0];
     if barred(n, top, t.max_size) {
-        return c;
+        return Tried {
+            heap: h,
+            chosen: n,
+            gave: false,
+        };
     }
-    let d = c.deceased;
     let heap = after_top(h, top, t.limit);
     let chosen = note(n, top);
-    Choice {
-        alive: heap,
-        deceased: d,
+    Tried {
+        heap,
         chosen,
-        from_alive: c.from_alive + 1,
-        from_deceased: c.from_deceased,
+        gave: true,
     }
 }
 
-// One try at the heap of the dead.
-fn try_deceased(c: Choice, t: Terms) -> Choice
-    requires { ⌜ Ready t c ⌝ }
-    ensures { λ r. ⌜ (choiceView r ≡ afterDeceased ipv4 (choiceView c) (tryDeceased ipv4 (toTerms t) (choiceView c))) × Ready t r ⌝ }
+// One more where a heap gave one.
+fn plus(n: usize, gave: bool) -> usize
+    requires { ⌜ n ≤ 64 ⌝ }
+    ensures { λ r. ⌜ r ≡ n + one gave ⌝ }
 {
-    let h = c.deceased;
-    let n = c.chosen;
-    if h.len == 0 {
-        return c;
-    }
-    let es = h.entries;
-    let top = es[0];
-    if barred(n, top, t.max_size) {
-        return c;
-    }
-    let a = c.alive;
-    let heap = after_top(h, top, t.limit);
-    let chosen = note(n, top);
-    Choice {
-        alive: a,
-        deceased: heap,
-        chosen,
-        from_alive: c.from_alive,
-        from_deceased: c.from_deceased + 1,
-    }
+    if gave { n + 1 } else { n }
 }
 
 // Is choosing over: no entry held, or both shares reached?
@@ -286,33 +287,41 @@ fn over(held: usize, from_alive: usize, from_deceased: usize, t: Terms) -> bool
     t.deceased_share <= from_deceased
 }
 
-// Gossip for one message: rounds of one try at each heap, while one of them gives.
+// Gossip for one message: rounds of one try at each heap, while one of them gives. Each but the last chooses one at least.
 pub fn choose(alive: Heap, deceased: Heap, t: Terms) -> Choice
     requires { ⌜ Packed alive × Packed deceased × GoodHeap ipv4 AliveKind (heapView alive) × GoodHeap ipv4 DeceasedKind (heapView deceased) × (t .«max_size» ≤ 1400) × (t .limit ≤ 23) ⌝ }
     ensures { λ r. ⌜ r ≡ packChoice (chosenFrom ipv4 (toTerms t) (heapView alive) (heapView deceased)) ⌝ }
 {
-    let mut c = Choice {
-        alive,
-        deceased,
-        chosen: Chosen::new(),
-        from_alive: 0,
-        from_deceased: 0,
-    };
-    let mut left: usize = 64;
+    let mut a = alive;
+    let mut d = deceased;
+    let mut n = Chosen::new();
+    let mut from_alive: usize = 0;
+    let mut from_deceased: usize = 0;
+    let mut left = Chosen::CAPACITY;
     while 0 < left {
-        let held = c.alive.len + c.deceased.len;
-        if over(held, c.from_alive, c.from_deceased, t) {
-            return c;
+        if over(a.len + d.len, from_alive, from_deceased, t) {
+            break;
         }
-        let before = c.chosen.count;
-        c = try_alive(c, t);
-        c = try_deceased(c, t);
-        if c.chosen.count == before {
-            return c;
+        let x = try_heap(a, n, t);
+        let between = x.chosen;
+        let y = try_heap(d, between, t);
+        if y.chosen.count == n.count {
+            break;
         }
+        a = x.heap;
+        d = y.heap;
+        n = y.chosen;
+        from_alive = plus(from_alive, x.gave);
+        from_deceased = plus(from_deceased, y.gave);
         left -= 1;
     }
-    c
+    Choice {
+        alive: a,
+        deceased: d,
+        chosen: n,
+        from_alive,
+        from_deceased,
+    }
 }
 
 // Gossip for one message of a node with so many members.

@@ -24,6 +24,9 @@ pub struct Heap {
 }
 
 impl Entry {
+    // No send limit passes 23, and an entry that reaches its limit goes.
+    pub const MOST_SENDS: u64 = 22;
+
     // What stands in an unused place.
     pub fn empty() -> Entry
         ensures { λ r. ⌜ r ≡ noEntry ⌝ }

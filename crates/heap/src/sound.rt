@@ -48,7 +48,7 @@ fn sound_entry(e: Entry, kind: Kind) -> bool
     if e.size != types::size_of(g) {
         return false;
     }
-    if 22 < e.sends {
+    if Entry::MOST_SENDS < e.sends {
         return false;
     }
     types::valid_gossip(g)

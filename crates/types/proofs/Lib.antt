@@ -1,3 +1,4 @@
 pub mod Sameness
 pub mod Measuring
 pub mod Ranging
+pub mod Wired
