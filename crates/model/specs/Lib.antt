@@ -28,3 +28,4 @@ pub mod Padded
 pub mod Checks
 pub mod SoundList
 pub mod Picks
+pub mod ListLaws
