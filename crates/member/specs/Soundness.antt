@@ -3,7 +3,7 @@
 use mathlib.Core.Path.{_≡_, refl, ap, sym, _∙_, subst}
 use mathlib.Core.Bool.{Bool, true, false, _&&_}
 use mathlib.Core.List.{List, [], _∷_, _++_, map}
-use Prim.Native.Nat.{ℕ, zero, suc, _-_, _≤_}
+use Prim.Native.Nat.{ℕ, zero, suc, _-_}
 use native.Mathlib.Omega.{arith}
 use lib.ListN.{length, take, drop, replicate, length-map, take-append-drop}
 use lib.Seq.{length-take-le}
@@ -14,10 +14,10 @@ use Rattle.model.specs.Words as words
 use Rattle.model.specs.Members as list
 use Rattle.model.specs.Sound.{distinct, permutes, positioned, isNoMember, soundMembers}
 use Rattle.model.specs.Whole.{Whole}
-use Rattle.model.specs.SoundList.{SoundList, sound-is, whole-sound}
+use Rattle.model.specs.SoundList.{sound-is, whole-sound}
 use Rattle.member.specs.declared.Member.{Member}
 use Rattle.member.specs.declared.Members.{Members}
-use Rattle.member.specs.Views.{toMember, fromMember, nobody, addrOf, blankAddress, viewMembers, packMembers, Packed, Held}
+use Rattle.member.specs.Views.{toMember, fromMember, nobody, addrOf, blankAddress, viewMembers, packMembers, Held}
 use Rattle.member.specs.Packing.{from-to, to-from}
 
 pub take-map : {A B : Type 0} (f : A → B) (n : ℕ) (l : List A) → take n (map f l) ≡ map f (take n l)

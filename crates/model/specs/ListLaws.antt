@@ -7,13 +7,12 @@ use mathlib.Core.Option.{Option}
 use Prim.Native.Nat.{ℕ, suc, _+_, _-_, _%_, _≤_, _<_}
 use native.Mathlib.Omega.{arith}
 use lib.ListN.{length}
-use Rattle.model.specs.declared.State.{State}
 use Rattle.model.specs.declared.State.the-variants.{Alive}
 use Rattle.model.specs.Rows.{one, pick, has, occurs, erase, Test}
 use Rattle.model.specs.After.{After, gives, after-map, after-when, after-then}
 use Rattle.model.specs.Words.{Member}
-use Rattle.model.specs.Members.{Members, Picked, addrs, listed, strike, put, held, heldState, added, remove, update, shuffle, advance, pickFrom}
-use Rattle.model.specs.Counts.{occurs-insertAt, occurs-erase, has-le, has-none, has-is}
+use Rattle.model.specs.Members.{Members, addrs, listed, strike, put, held, heldState, added, remove, update, shuffle, advance, pickFrom}
+use Rattle.model.specs.Counts.{occurs-insertAt, occurs-erase, has-le, has-is}
 use Rattle.model.specs.Whole.{Whole, shuffle-alike, count-added, put-addrs, strike-addrs, addrs-append}
 use Rattle.model.specs.Picks.{after-drawn, pick-ends}
 

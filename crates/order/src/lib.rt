@@ -28,10 +28,10 @@ pub enum Drew {
     Refused(Refusal),
 }
 
-// The first place that holds an address, or n where none of the first n does.
-pub fn find_place(row: [Address; Order::CAPACITY], n: usize, a: Address) -> usize
-    requires { ⌜ n ≤ 64 ⌝ }
-    ensures { λ r. ⌜ r ≡ placeOf (ipv4 .same) a (take n row) ⌝ }
+// The first place that holds an address, or n where none of the first n does. The row is only read, so it is lent.
+pub fn find_place(row: &[Address; Order::CAPACITY], n: usize, a: Address) -> usize
+    requires { ⌜ (n ≤ 64) × (length (now row) ≡ 64) ⌝ }
+    ensures { λ r. ⌜ r ≡ placeOf (ipv4 .same) a (take n (now (row .entry))) ⌝ }
     ensures within { λ r. ⌜ r ≤ n ⌝ }
 {
     let mut i = 0;

@@ -1,16 +1,16 @@
 -- `member::sound::sound_members` meets its contract: each way out by the tests that led there.
 -- Assumes nothing.
 use mathlib.Core.Path.{_≡_, ap, sym, _∙_}
-use mathlib.Core.Bool.{true, false, _&&_}
+use mathlib.Core.Bool.{true, _&&_}
 use mathlib.Core.List.{List, map}
 use Prim.Native.Nat.{ℕ}
-use lib.ListN.{take, drop}
+use lib.ListN.{take}
 use lib.Dec.{leb}
 use borrow.Author.Tests.{le-leb, lt-leb, not-true, not-false}
 use Rattle.model.specs.IPv4.{ipv4}
 use Rattle.model.specs.Rows.{every}
-use Rattle.model.specs.Sound.{positioned, isNoMember, distinct, permutes}
-use Rattle.member.specs.Views.{toMember, addrOf, blankAddress}
+use Rattle.model.specs.Sound.{positioned, distinct, permutes}
+use Rattle.member.specs.Views.{addrOf}
 use Rattle.member.specs.Soundness.{sound-parts, stops-1, stops-2, stops-3, stops-4, stops-5, last}
 use borrow.Author.Needs.{needs}
 use Rattle.member.proofs.sound.sound_members.Statement.{statement}
