@@ -33,3 +33,7 @@ pub after-then : {B C : Type 0} {P : B → Type 0} {Q : C → Type 0} {x : Answe
     → After P x → ((b : B) (ds : List ℕ) → P b → After Q (k b ds)) → After Q (andThen x k)
 after-then halts f = halts
 after-then (gives {b = b} {ds = ds} p) f = f b ds p
+
+pub after-both : {B : Type 0} {P Q R : B → Type 0} {x : Answer B} → ((b : B) → P b → Q b → R b) → After P x → After Q x → After R x
+after-both f halts q = halts
+after-both f (gives {b = b} p) q = gives (f b p (given q))

@@ -69,6 +69,16 @@ module _ {A : Type 0} where
   abbrev pub refuses : Stored A → Refusal → Outcome A
   refuses s r = unchanged (Refused r) s
 
+  -- "already" if listed
+  abbrev pub orAlready : Bool → Stored A → Outcome A → Outcome A
+  orAlready true s o = unchanged Already s
+  orAlready false s o = o
+
+  -- "A detector step or timer call that isn't due answers "not due" .. and changes nothing."
+  abbrev pub whenDue : Bool → Stored A → Wait A → StepOutcome A → StepOutcome A
+  whenDue true s w o = o
+  whenDue false s w o = record { outcome = unchanged NotDue s; wait = w }
+
   -- the gossip of all messages "is packed in sending order, each with its count"
   abbrev pub packed : List (Message A) → List (Gossip A)
   packed [] = []
@@ -84,9 +94,12 @@ module _ {A : Type 0} where
 
 module _ {A : Type 0} (address : Address A) where
   -- "Creation takes settings, own address and its number .. It tests 5, then 1"
+  abbrev pub createTests : Settings → A → List (Bool × Refusal)
+  createTests settings own = (not (address .valid own), AddressRange) ∷ (not (inRange settings), Setting) ∷ []
+
   unfoldable pub create : Settings → A → ℕ → Created A
   create settings own n =
-      firstOf ((not (address .valid own), AddressRange) ∷ (not (inRange settings), Setting) ∷ [])
+      firstOf (createTests settings own)
       notCreated
       (created (stored address (fresh settings own n)))
 
@@ -107,11 +120,14 @@ module _ {A : Type 0} (address : Address A) where
       andThen (list.add (address .same) a n (s .members) ds) λ m rest.
       done (record { node = withMembers s m; messages = []; events = [] }) rest
 
+  abbrev pub addTests : Stored A → A → List (Bool × Refusal)
+  addTests s a = (not (sound address s), Unsound) ∷ (not (address .valid a), AddressRange) ∷ []
+
   unfoldable pub addPeer : Stored A → A → ℕ → List ℕ → Outcome A
   addPeer s a n ds =
-      firstOf ((not (sound address s), Unsound) ∷ (not (address .valid a), AddressRange) ∷ [])
+      firstOf (addTests s a)
       (refuses s)
-      (elim (lists address a (loaded s)) [ true ↦ unchanged Already s | false ↦ kept s ds (joins a n (loaded s) ds) ])
+      (orAlready (lists address a (loaded s)) s (kept s ds (joins a n (loaded s) ds)))
 
   -- "an address of 2^48 or more among the call's inputs, wait record included"
   abbrev pub validOption : Option A → Bool
@@ -131,34 +147,35 @@ module _ {A : Type 0} (address : Address A) where
   validState (Declaring a n) = address .valid a
 
   -- the message: 2, 3, 4, 5, then the rules
-  unfoldable pub message : Stored A → Action A → List (Gossip A) → List ℕ → Room → Outcome A
-  message s action gs ds lent =
-      firstOf
-      ((not (sound address s), Unsound)
+  abbrev pub messageTests : Stored A → Action A → List (Gossip A) → Room → List (Bool × Refusal)
+  messageTests s action gs lent =
+      (not (sound address s), Unsound)
       ∷ (short message-room lent, ShortRow)
       ∷ (ltb message-records (length gs), ManyRecords)
       ∷ (not (validAction action && every (validGossip address) gs), AddressRange)
-      ∷ [])
-      (refuses s)
-      (kept s ds (handle address action gs (loaded s) ds))
+      ∷ []
+
+  unfoldable pub message : Stored A → Action A → List (Gossip A) → List ℕ → Room → Outcome A
+  message s action gs ds lent =
+      firstOf (messageTests s action gs lent) (refuses s) (kept s ds (handle address action gs (loaded s) ds))
 
   abbrev pub keptStep : Stored A → Wait A → List ℕ → Answer (Stepped A) → StepOutcome A
   keptStep s w ds (refused r) = record { outcome = refuses s r; wait = w }
   keptStep s w ds (done e rest) = record { outcome = kept s ds (done (e .effect) rest); wait = e .wait }
 
   -- the detector step: 2, 3, 5; "not due"; then the rules
-  unfoldable pub detect : Stored A → Wait A → ℕ → List ℕ → Room → StepOutcome A
-  detect s w now ds lent =
-      firstOf
-      ((not (sound address s), Unsound)
+  abbrev pub stepTests : Stored A → Wait A → Room → List (Bool × Refusal)
+  stepTests s w lent =
+      (not (sound address s), Unsound)
       ∷ (short step-room lent, ShortRow)
       ∷ (not (validState (w .state)), AddressRange)
-      ∷ [])
+      ∷ []
+
+  unfoldable pub detect : Stored A → Wait A → ℕ → List ℕ → Room → StepOutcome A
+  detect s w now ds lent =
+      firstOf (stepTests s w lent)
       (λ r. record { outcome = refuses s r; wait = w })
-      (elim (due (s .settings) w now) [
-        | true ↦ keptStep s w ds (step address (w .state) now (loaded s) ds)
-        | false ↦ record { outcome = unchanged NotDue s; wait = w }
-      ])
+      (whenDue (due (s .settings) w now) s w (keptStep s w ds (step address (w .state) now (loaded s) ds)))
 
   abbrev pub reports : Answer (Out A) → Answer (Effect A)
   reports x = andThen x λ o rest. done (record { node = o .node; messages = []; events = o .said }) rest
@@ -168,9 +185,11 @@ module _ {A : Type 0} (address : Address A) where
   endsAt s (some i) = kept s [] (reports (endAt address i (loaded s) []))
 
   -- the timer call: 2, 3; "not due"; then the rules. It reads no draw
+  abbrev pub timerTests : Stored A → Room → List (Bool × Refusal)
+  timerTests s lent = (not (sound address s), Unsound) ∷ (short timer-room lent, ShortRow) ∷ []
+
   unfoldable pub endTimer : Stored A → ℕ → Room → Outcome A
   endTimer s now lent =
-      firstOf
-      ((not (sound address s), Unsound) ∷ (short timer-room lent, ShortRow) ∷ [])
+      firstOf (timerTests s lent)
       (refuses s)
       (endsAt s (firstOver address (s .settings .«suspect_timeout») now (loaded s .timers)))

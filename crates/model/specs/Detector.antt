@@ -22,6 +22,11 @@ use Rattle.model.specs.Handler.{says}
 unfoldable pub isOver : ℕ → ℕ → ℕ → Bool
 isOver wait now since = leb wait ((now + ticks - since) % ticks)
 
+-- a place of the rest of a row is one further in the row
+abbrev pub later : Option ℕ → Option ℕ
+later none = none
+later (some i) = some (suc i)
+
 module _ {A : Type 0} where
   -- how long each state waits; "SendingPingReq at once", "Declaring at once"
   abbrev pub waitOf : Settings → WaitState A → ℕ
@@ -87,20 +92,23 @@ module _ {A : Type 0} (address : Address A) where
   unfoldable pub suspect : A → ℕ → Node A → List ℕ → Answer (Out A)
   suspect a n s ds = emitAlive address (says address Suspected s a n) (change address a state.Suspected n s) ds
 
-  -- "pick the group without the suspect, choose gossip for each, wait for PingReqAck"
-  unfoldable pub sendPingReq : A → ℕ → ℕ → Node A → List ℕ → Answer (Stepped A)
-  sendPingReq a n now s ds =
-      andThen (suspect a n s ds) λ o rest.
-      andThen
-      (list.pickFrom (address .same) (address .blank) (s .own) (some a) (s .settings .«ping_req_group_size») (o .node .members) rest)
-      λ p rest₂.
+  -- "choose gossip for each, wait for PingReqAck": after the suspicion o, with the group p
+  unfoldable pub asked : A → ℕ → ℕ → Out A → list.Picked A → Stepped A
+  asked a n now o p =
       let e = askEach a (p .picks) (withMembers (o .node) (p .members)) [] in
-      done
-      (record {
+      record {
         effect = record { node = e .node; messages = e .messages; events = o .said };
         wait = enters (WaitingForPingReqAck a n) now;
-      })
-      rest₂
+      }
+
+  -- "pick the group without the suspect"
+  unfoldable pub pickGroup : A → Node A → List ℕ → Answer (list.Picked A)
+  pickGroup a s ds =
+      list.pickFrom (address .same) (address .blank) (s .own) (some a) (s .settings .«ping_req_group_size») (s .members) ds
+
+  unfoldable pub sendPingReq : A → ℕ → ℕ → Node A → List ℕ → Answer (Stepped A)
+  sendPingReq a n now s ds =
+      andThen (suspect a n s ds) λ o rest. andThen (pickGroup a (o .node) rest) λ p rest₂. done (asked a n now o p) rest₂
 
   -- "Declaring at once: start a timer, SendingPing." Refusal 10
   unfoldable pub declare : A → ℕ → ℕ → Node A → List ℕ → Answer (Stepped A)
@@ -120,11 +128,7 @@ module _ {A : Type 0} (address : Address A) where
   -- "the earliest started that is over": its place in the row
   unfoldable pub firstOver : ℕ → ℕ → List (Timer A) → Option ℕ
   firstOver wait now [] = none
-  firstOver wait now (t ∷ ts) = elim (isOver wait now (t .since)) [ true ↦ some 0 | false ↦ onward (firstOver wait now ts) ]
-    where
-      onward : Option ℕ → Option ℕ
-      onward none = none
-      onward (some i) = some (suc i)
+  firstOver wait now (t ∷ ts) = elim (isOver wait now (t .since)) [ true ↦ some 0 | false ↦ later (firstOver wait now ts) ]
 
   -- "its address is removed if listed, Deceased emitted at its number, its place reused"
   unfoldable pub ended : Timer A → Node A → List ℕ → Answer (Out A)

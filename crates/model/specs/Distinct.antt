@@ -7,10 +7,10 @@ use Prim.Native.Nat.{ℕ, zero, suc, _+_, _-_, _≤_, _<_}
 use native.Mathlib.Omega.{arith}
 use native.Mathlib.Nat.{not-suc-le-zero}
 use lib.ListN.{length}
-use lib.Dec.{eqb}
-use borrow.Author.Tests.{eqb-true, eq-eqb}
+use borrow.Author.Tests.{not-true}
 use Rattle.model.specs.Rows.{one, pick, has, occurs, erase, Test}
 use Rattle.model.specs.Sound.{distinct, permutes}
+use Rattle.model.specs.Bools.{and-split}
 use Rattle.model.specs.Counts.{occurs-erase, has-le, has-none, has-is}
 use Rattle.model.specs.Whole.{length-erase}
 
@@ -19,14 +19,6 @@ module _ {A : Type 0} (same : A → A → Bool) where
   abbrev pub all-in : List A → List A → Bool
   all-in [] t = true
   all-in (x ∷ o) t = has same x t && all-in o t
-
-and-split : (x y : Bool) → (x && y) ≡ true → (x ≡ true) × (y ≡ true)
-and-split true y e = (refl, e)
-and-split false y e = (cc, cc)
-
-not-true : (x : Bool) → not x ≡ true → x ≡ false
-not-true true e = cc
-not-true false e = refl
 
 module _ {A : Type 0} (same : A → A → Bool) (test : Test same) where
   pub distinct-once : (l : List A) → distinct same l ≡ true → (a : A) → occurs same a l ≤ 1

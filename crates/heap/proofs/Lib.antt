@@ -1,0 +1,4 @@
+pub mod Decided
+pub mod Settling
+pub mod Padding
+pub mod Testing

@@ -1,0 +1,72 @@
+-- A history: any list of calls, each with its draws, its ticks and how many places the host lends, from a fresh node and a fresh wait record.
+-- Assumes nothing.
+use mathlib.Core.Bool.{Bool, true, false}
+use mathlib.Core.List.{List, [], _∷_, _++_}
+use mathlib.Core.Option.{Option, none, some}
+use Prim.Native.Nat.{ℕ}
+use Rattle.model.specs.declared.Reply.{Reply}
+use Rattle.model.specs.declared.Reply.the-variants.{Done, Already, NotDue, Refused}
+use Rattle.model.specs.declared.Settings.{Settings}
+use Rattle.model.specs.Rows.{pick}
+use Rattle.model.specs.Bounds.{Room}
+use Rattle.model.specs.Words.{Address, Gossip, Action, Wait, SendingPing}
+use Rattle.model.specs.Node.{Node, Stored, loaded, stored, fresh}
+use Rattle.model.specs.Detector.{firstOver}
+use Rattle.model.specs.Calls.{StepOutcome, addPeer, message, detect, endTimer}
+use Rattle.history.specs.Moments.{Moment, traceAdd, traceMessage, traceStep, traceTimer}
+
+-- what the calls of a history work on
+pub record World (A : Type 0) : Type 0 where
+  pub node : Stored A
+  pub wait : Wait A
+
+-- "The calls that change a node are four: this one, the message, the detector step and the timer call."
+pub data Call (A : Type 0) : Type 0 where
+  Add : A → ℕ → List ℕ → Call A
+  Receive : Action A → List (Gossip A) → List ℕ → Room → Call A
+  Step : ℕ → List ℕ → Room → Call A
+  Timer : ℕ → Room → Call A
+
+abbrev pub isKept : Reply → Bool
+isKept (Done used) = true
+isKept Already = false
+isKept NotDue = false
+isKept (Refused r) = false
+
+module _ {A : Type 0} (address : Address A) where
+  -- what a call gives, with the wait record after it
+  abbrev pub outcome : Call A → World A → StepOutcome A
+  outcome (Add a n ds) w = record { outcome = addPeer address (w .node) a n ds; wait = w .wait }
+  outcome (Receive action gs ds lent) w = record { outcome = message address (w .node) action gs ds lent; wait = w .wait }
+  outcome (Step now ds lent) w = detect address (w .node) (w .wait) now ds lent
+  outcome (Timer now lent) w = record { outcome = endTimer address (w .node) now lent; wait = w .wait }
+
+  abbrev pub worldOf : StepOutcome A → World A
+  worldOf o = record { node = o .outcome .node; wait = o .wait }
+
+  abbrev pub run : List (Call A) → World A → World A
+  run [] w = w
+  run (c ∷ h) w = run h (worldOf (outcome c w))
+
+  -- the rules that a kept call ran
+  abbrev pub endingAt : Option ℕ → Node A → List (Moment A)
+  endingAt none s = []
+  endingAt (some i) s = traceTimer address i s
+
+  abbrev pub rulesOf : Call A → Node A → Wait A → List (Moment A)
+  rulesOf (Add a n ds) s w = traceAdd address a n s ds
+  rulesOf (Receive action gs ds lent) s w = traceMessage address action gs s ds
+  rulesOf (Step now ds lent) s w = traceStep address (w .state) now s ds
+  rulesOf (Timer now lent) s w = endingAt (firstOver address (s .settings .«suspect_timeout») now (s .timers)) s
+
+  -- "Refused calls drop out", and so do those that had nothing to do
+  abbrev pub moments : Call A → World A → List (Moment A)
+  moments c w = pick (isKept (outcome c w .outcome .reply)) (rulesOf c (loaded (w .node)) (w .wait)) []
+
+  abbrev pub trace : List (Call A) → World A → List (Moment A)
+  trace [] w = []
+  trace (c ∷ h) w = moments c w ++ trace h (worldOf (outcome c w))
+
+  -- "a fresh one is SendingPing at any tick"
+  abbrev pub start : Settings → A → ℕ → ℕ → World A
+  start settings own n tick = record { node = stored address (fresh settings own n); wait = record { state = SendingPing; since = tick } }

@@ -1,0 +1,10 @@
+pub mod Moments
+pub mod Ledger
+pub mod Did
+pub mod Rules
+pub mod Histories
+pub mod Walk
+pub mod WalkSteps
+pub mod Worlds
+pub mod Demand3
+pub mod Auditor

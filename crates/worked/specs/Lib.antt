@@ -1,0 +1,3 @@
+pub mod Cabinet
+pub mod Table
+pub mod Worked

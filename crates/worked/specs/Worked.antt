@@ -1,0 +1,28 @@
+-- Every case of the table holds: the rules compute it.
+-- Assumes nothing.
+use mathlib.Core.Path.{_≡_, refl}
+use mathlib.Core.List.{List, [], _∷_}
+use Rattle.model.specs.Answers.{when}
+use Rattle.model.specs.Rows.{swap}
+use Rattle.model.specs.Limit.{leastFrom, leastPower, limitOf}
+use Rattle.model.specs.Size.{varintFrom, varintLength, numberSize, sizeOver, sizeOf}
+use Rattle.model.specs.IPv4.{digits, textLength}
+use Rattle.model.specs.Words.{partsOf, sameGossip}
+use Rattle.model.specs.Heap.{climbIn, climb, lower, downIn, down, push, sinkTop, removeTop}
+use Rattle.model.specs.Choose.{termsOf, wasNoted, takeTop, tryHeap, tryAlive, tryDeceased, over, rounds, choose}
+use Rattle.model.specs.Members.{shuffle, advance, added, add, remove, update, seek, pickFrom}
+use Rattle.model.specs.Node.{quiet, pushed, emitAlive, emitDeceased, change, leave, spread}
+use Rattle.model.specs.Handler.{believed, suspected, deceased}
+use Rattle.model.specs.Detector.{pinged, sendPing}
+use Rattle.worked.specs.Table.{Case, Holds, table}
+
+pub data All : List Case → Type 1 where
+  end : All []
+  _and_ : {c : Case} {cs : List Case} → Holds c → All cs → All (c ∷ cs)
+
+infixr 10 _and_
+pub worked : All table
+unfolding when swap leastFrom leastPower limitOf varintFrom varintLength numberSize sizeOver sizeOf digits textLength partsOf sameGossip climbIn climb lower downIn down push sinkTop removeTop termsOf wasNoted takeTop tryHeap tryAlive tryDeceased over rounds choose shuffle advance added add remove update seek pickFrom quiet pushed emitAlive emitDeceased change leave spread believed suspected deceased pinged sendPing
+worked =
+    refl and refl and refl and refl and refl and refl and refl and refl and refl and refl and refl and refl
+    and refl and refl and refl and refl and refl and refl and refl and refl and refl and refl and refl and refl and end

@@ -1,0 +1,2 @@
+//! As in the published crate: the settings.
+pub mod config;

@@ -1,0 +1,123 @@
+//! The edge of the domain in which the published code is the judge: no refusal is met and the list is never emptied.
+//! Past it the answers are the port's own, so the oracle says only that the edge was passed.
+use rand::Lent;
+
+use super::script::{Call, Creation, Rows, Settings};
+use super::words::{Address, Gossips, Kind, Record, Wait, ADDRESS_LIMIT};
+
+pub const MOST_LISTED: usize = 64;
+pub const MOST_HELD: usize = 128;
+pub const MOST_TIMERS: usize = 16;
+pub const MOST_GOSSIP: usize = 64;
+
+/// Why a call is outside the domain.
+#[derive(Clone, Copy, Debug, PartialEq, Eq)]
+pub enum Outside {
+    /// The refusal of this number would be given.
+    Refusal(u8),
+    /// The list was emptied.
+    Emptied,
+}
+
+/// What the published code did in one call.
+pub struct Trace<'a> {
+    pub heaps_before: (usize, usize),
+    pub events: &'a [Record],
+    pub lent: &'a Lent,
+    pub position_and_length: (usize, usize),
+}
+
+fn refuse(number: u8, if_so: bool) -> Result<(), Outside> {
+    match if_so {
+        true => Err(Outside::Refusal(number)),
+        false => Ok(()),
+    }
+}
+
+fn too_large(address: Address) -> bool {
+    address >= ADDRESS_LIMIT
+}
+
+pub fn check_creation(creation: &Creation) -> Result<(), Outside> {
+    refuse(5, too_large(creation.own.address))?;
+    refuse(1, !in_range(&creation.settings))
+}
+
+fn in_range(settings: &Settings) -> bool {
+    let waits = [
+        settings.ping_interval,
+        settings.ping_timeout,
+        settings.ping_req_timeout,
+        settings.suspect_timeout,
+    ];
+    waits.iter().all(|wait| *wait < 1 << 31)
+        && settings.group <= 4
+        && settings.send_constant <= 8
+        && (1..=64).contains(&settings.max_selected)
+        && (59..=1400).contains(&settings.max_size)
+}
+
+/// Refusals 3, 4 and 5, which depend on the inputs alone.
+pub fn check_inputs(call: &Call, rows: Option<Rows>, wait: &Wait) -> Result<(), Outside> {
+    if let (Some(lent), Some(needed)) = (rows, rows_needed(call)) {
+        let short = lent.gossip < needed.gossip || lent.events < needed.events;
+        refuse(3, short)?;
+    }
+    match call {
+        Call::Add { peer, .. } => refuse(5, too_large(peer.address)),
+        Call::Message { packet, .. } => {
+            refuse(4, packet.gossip.len() > MOST_GOSSIP)?;
+            let ends = [Some(packet.from), packet.other];
+            refuse(5, ends.into_iter().flatten().any(too_large))?;
+            refuse(5, gossip_too_large(&packet.gossip))
+        }
+        Call::Step { .. } => refuse(5, wait.phase.address().is_some_and(too_large)),
+        Call::Timer { .. } => Ok(()),
+    }
+}
+
+fn gossip_too_large(gossip: &Gossips) -> bool {
+    let large = |record: &Record| too_large(record.from) || too_large(record.subject);
+    gossip.iter().flatten().any(large)
+}
+
+fn rows_needed(call: &Call) -> Option<Rows> {
+    let rows = |gossip, events| Some(Rows { gossip, events });
+    match call {
+        Call::Add { .. } => None,
+        Call::Message { .. } => rows(64, 65),
+        Call::Step { .. } => rows(256, 1),
+        Call::Timer { .. } => rows(0, 1),
+    }
+}
+
+/// Refusals 7, 8 and 9 and the emptied list, read from what the published code did.
+pub fn check_trace(trace: &Trace) -> Result<(), Outside> {
+    // An insertion draws a place from the list's length at that time.
+    refuse(
+        7,
+        trace
+            .lent
+            .lengths
+            .iter()
+            .any(|length| *length >= MOST_LISTED),
+    )?;
+    refuse(8, trace.lent.ran_out())?;
+
+    // In every call all pushes come before the first choice of gossip, so nothing left a heap between them.
+    let is_death = |event: &&Record| event.kind == Kind::Deceased;
+    let deaths = trace.events.iter().filter(is_death).count();
+    let others = trace.events.len() - deaths;
+    let (alive, deceased) = trace.heaps_before;
+    refuse(
+        9,
+        alive + others > MOST_HELD || deceased + deaths > MOST_HELD,
+    )?;
+
+    // An emptied list leaves the position below zero, come round to 2^64 - 1, also if it was filled again.
+    let (position, length) = trace.position_and_length;
+    match position < length {
+        true => Ok(()),
+        false => Err(Outside::Emptied),
+    }
+}

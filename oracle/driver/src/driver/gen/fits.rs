@@ -1,0 +1,61 @@
+//! Whether a call surely stays inside the domain. It errs on the safe side: a call it turns down might have stayed inside.
+use crate::driver::coverage::is_listed;
+use crate::driver::domain::{MOST_HELD, MOST_LISTED, MOST_TIMERS};
+use crate::driver::host::State;
+use crate::driver::script::Call;
+use crate::driver::words::{Address, Kind, Packet, PacketKind, Phase, Record};
+
+pub fn fits(call: &Call, state: &State, own: Address) -> bool {
+    match call {
+        Call::Add { peer, .. } => {
+            is_listed(state, peer.address) || state.members.len() < MOST_LISTED
+        }
+        Call::Message { packet, .. } => message_fits(packet, state, own),
+        Call::Step { .. } => match state.wait.phase {
+            Phase::SendingPingReq(_) => state.alive.len() < MOST_HELD,
+            Phase::Declaring(_) => state.timers.len() < MOST_TIMERS,
+            _ => true,
+        },
+        // Any timer may end: none may be the last member's.
+        Call::Timer { .. } => {
+            let last_member = |address| state.members.len() == 1 && is_listed(state, address);
+            let empties = state
+                .timers
+                .iter()
+                .any(|timer| last_member(timer.peer.address));
+            state.deceased.len() < MOST_HELD && !empties
+        }
+    }
+}
+
+fn message_fits(packet: &Packet, state: &State, own: Address) -> bool {
+    let records: Vec<&Record> = packet.gossip.iter().flatten().collect();
+    let of = |kind| records.iter().filter(move |record| record.kind == kind);
+    let dies = |address| of(Kind::Deceased).any(|record| record.subject == address);
+    let may_enter = |address| !is_listed(state, address) || dies(address);
+    let sender_enters = packet.kind == PacketKind::Ping && may_enter(packet.from);
+
+    let deaths = of(Kind::Deceased).count();
+    let pushes = records.len() - deaths + usize::from(sender_enters);
+    let heaps_hold =
+        state.alive.len() + pushes <= MOST_HELD && state.deceased.len() + deaths <= MOST_HELD;
+
+    let entries = of(Kind::Joined)
+        .filter(|record| may_enter(record.subject))
+        .count();
+    let list_holds = state.members.len() + entries + usize::from(sender_enters) <= MOST_LISTED;
+
+    let stays = |address| !dies(address);
+    let someone_stays = state.members.iter().any(|member| stays(member.address));
+
+    let last_number = |address| {
+        let held = state.deceased.iter().map(|entry| &entry.record);
+        let mut deaths = held.chain(of(Kind::Deceased).copied());
+        deaths.any(|record| record.subject == address && record.number == u64::MAX)
+    };
+    let needs_too_much = of(Kind::Joined).any(|record| last_number(record.subject))
+        || of(Kind::Suspected).any(|record| record.subject == own && record.number == u64::MAX)
+        || (sender_enters && last_number(packet.from));
+
+    heaps_hold && list_holds && someone_stays && !needs_too_much
+}

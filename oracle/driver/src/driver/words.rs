@@ -1,0 +1,187 @@
+//! The words of the replay text: what a call, a message and a state are made of, and how each is written.
+use std::fmt;
+
+/// An IPv4 address as one number, ip × 65536 + port.
+pub type Address = u64;
+
+/// Every address of the domain is below this.
+pub const ADDRESS_LIMIT: Address = 1 << 48;
+
+#[derive(Clone, Copy, Debug, PartialEq, Eq, Hash)]
+pub enum Kind {
+    Joined,
+    Recovered,
+    Suspected,
+    Deceased,
+}
+
+/// A gossip record that holds an event.
+#[derive(Clone, Copy, Debug, PartialEq, Eq, Hash)]
+pub struct Record {
+    pub kind: Kind,
+    pub from: Address,
+    pub subject: Address,
+    pub number: u64,
+}
+
+/// A gossip list: a record of no event is `None`.
+pub type Gossips = Vec<Option<Record>>;
+
+#[derive(Clone, Copy, Debug, PartialEq, Eq)]
+pub enum PacketKind {
+    Ping,
+    Req,
+    Ack,
+}
+
+/// A message, coming in or going out. `other` is `requested_by`, `suspect` or `forward_to`.
+#[derive(Clone, Debug, PartialEq, Eq)]
+pub struct Packet {
+    pub kind: PacketKind,
+    pub from: Address,
+    pub other: Option<Address>,
+    pub gossip: Gossips,
+}
+
+/// A message with the address it was sent to.
+#[derive(Clone, Debug, PartialEq, Eq)]
+pub struct Sent {
+    pub target: Address,
+    pub packet: Packet,
+}
+
+#[derive(Clone, Copy, Debug, PartialEq, Eq)]
+pub enum MemberState {
+    Alive,
+    Pending,
+    Suspected,
+}
+
+#[derive(Clone, Copy, Debug, PartialEq, Eq)]
+pub struct Member {
+    pub address: Address,
+    pub state: MemberState,
+    pub number: u64,
+}
+
+/// An entry of a heap.
+#[derive(Clone, Copy, Debug, PartialEq, Eq)]
+pub struct Entry {
+    pub record: Record,
+    pub sends: usize,
+    pub size: usize,
+}
+
+/// An address with the number it was last known by.
+#[derive(Clone, Copy, Debug, PartialEq, Eq)]
+pub struct Peer {
+    pub address: Address,
+    pub number: u64,
+}
+
+/// A declaration timer and the tick it was started at.
+#[derive(Clone, Copy, Debug, PartialEq, Eq)]
+pub struct Timer {
+    pub peer: Peer,
+    pub tick: u32,
+}
+
+#[derive(Clone, Copy, Debug, PartialEq, Eq)]
+pub enum Phase {
+    SendingPing,
+    WaitingForPingAck(Peer),
+    SendingPingReq(Peer),
+    WaitingForPingReqAck(Peer),
+    Declaring(Peer),
+}
+
+/// The wait record: the detector's phase and the tick it was entered at.
+#[derive(Clone, Copy, Debug, PartialEq, Eq)]
+pub struct Wait {
+    pub phase: Phase,
+    pub tick: u32,
+}
+
+impl Phase {
+    /// The address the record holds; SendingPing holds none.
+    pub fn address(&self) -> Option<Address> {
+        match self {
+            Phase::SendingPing => None,
+            Phase::WaitingForPingAck(peer)
+            | Phase::SendingPingReq(peer)
+            | Phase::WaitingForPingReqAck(peer)
+            | Phase::Declaring(peer) => Some(peer.address),
+        }
+    }
+}
+
+impl fmt::Display for Record {
+    fn fmt(&self, f: &mut fmt::Formatter<'_>) -> fmt::Result {
+        let letter = match self.kind {
+            Kind::Joined => 'j',
+            Kind::Recovered => 'r',
+            Kind::Suspected => 's',
+            Kind::Deceased => 'd',
+        };
+        write!(f, "{letter}:{}:{}:{}", self.from, self.subject, self.number)
+    }
+}
+
+impl fmt::Display for Packet {
+    fn fmt(&self, f: &mut fmt::Formatter<'_>) -> fmt::Result {
+        let kind = match self.kind {
+            PacketKind::Ping => "ping",
+            PacketKind::Req => "req",
+            PacketKind::Ack => "ack",
+        };
+        write!(f, "{kind} {} ", self.from)?;
+        match self.other {
+            Some(address) => write!(f, "{address}")?,
+            None => write!(f, "-")?,
+        }
+        for record in &self.gossip {
+            match record {
+                Some(record) => write!(f, " {record}")?,
+                None => write!(f, " n")?,
+            }
+        }
+        Ok(())
+    }
+}
+
+impl fmt::Display for Member {
+    fn fmt(&self, f: &mut fmt::Formatter<'_>) -> fmt::Result {
+        let letter = match self.state {
+            MemberState::Alive => 'a',
+            MemberState::Pending => 'p',
+            MemberState::Suspected => 's',
+        };
+        write!(f, "{}:{letter}:{}", self.address, self.number)
+    }
+}
+
+impl fmt::Display for Entry {
+    fn fmt(&self, f: &mut fmt::Formatter<'_>) -> fmt::Result {
+        write!(f, "{}*{}/{}", self.record, self.sends, self.size)
+    }
+}
+
+impl fmt::Display for Timer {
+    fn fmt(&self, f: &mut fmt::Formatter<'_>) -> fmt::Result {
+        let Peer { address, number } = self.peer;
+        write!(f, "{address}:{number}:{}", self.tick)
+    }
+}
+
+impl fmt::Display for Wait {
+    fn fmt(&self, f: &mut fmt::Formatter<'_>) -> fmt::Result {
+        let (word, peer) = match self.phase {
+            Phase::SendingPing => return write!(f, "ping {}", self.tick),
+            Phase::WaitingForPingAck(peer) => ("ack", peer),
+            Phase::SendingPingReq(peer) => ("req", peer),
+            Phase::WaitingForPingReqAck(peer) => ("reqack", peer),
+            Phase::Declaring(peer) => ("dead", peer),
+        };
+        write!(f, "{word} {} {} {}", peer.address, peer.number, self.tick)
+    }
+}
