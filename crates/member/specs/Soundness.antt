@@ -61,9 +61,9 @@ module _ (a b c d e f : Bool) where
   unfolding tests
   stops-5 p q r s t = rw (p, q, r, s, t)
 
-  pub last : a ≡ true → b ≡ true → c ≡ true → d ≡ true → e ≡ true → f ≡ tests a b c d e f
+  last : (u : Bool) → u ≡ f → a ≡ true → b ≡ true → c ≡ true → d ≡ true → e ≡ true → u ≡ tests a b c d e f
   unfolding tests
-  last p q r s t = rw (p, q, r, s, t)
+  last u v p q r s t = rw (p, q, r, s, t) v
 
 and-false : (x : Bool) → (x && false) ≡ false
 and-false true = refl
@@ -101,6 +101,15 @@ sound-parts t o n p =
     (addrs-row n t)
     ∙ reorder (leb n 64) (distinct (ipv4 .same) (take n (map addrOf t))) (permutes (ipv4 .same) (take n o) (take n (map addrOf t)))
     (positioned p n) (every (ipv4 .valid) (take n (map addrOf t))) (every (isNoMember ipv4) (drop n (map toMember t))) (every blankAddress (drop n o))
+
+-- all but the last test have passed
+pub sound-last : (m : Members) (u : Bool) → leb (m .len) 64 ≡ true → positioned (m .position) (m .len) ≡ true
+    → every (ipv4 .valid) (take (m .len) (map addrOf (m .table))) ≡ true → every (isNoMember ipv4) (drop (m .len) (map toMember (m .table))) ≡ true
+    → every blankAddress (drop (m .len) (m .order)) ≡ true
+    → u ≡ (distinct (ipv4 .same) (take (m .len) (map addrOf (m .table)))
+    && permutes (ipv4 .same) (take (m .len) (m .order)) (take (m .len) (map addrOf (m .table))))
+    → u ≡ soundMembers ipv4 (map toMember (m .table)) (m .order) (m .len) (m .position)
+sound-last m u p q r s t v = last _ _ _ _ _ _ u v p q r s t ∙ sym (sound-parts (m .table) (m .order) (m .len) (m .position))
 
 map-replicate : {A B : Type 0} (f : A → B) (n : ℕ) (x : A) → map f (replicate n x) ≡ replicate n (f x)
 map-replicate f zero x = refl

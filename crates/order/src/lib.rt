@@ -282,6 +282,7 @@ pub fn pick(
 ) -> Picked
     requires { ⌜ Ready order n × (wanted ≤ 4) × (from ≤ length (now draws)) ⌝ }
     ensures { λ r. ⌜ r ≡ pickedOf order n own exclusion wanted (now (draws .entry)) from ⌝ }
+    ensures within { λ r. ⌜ r .picks .count ≤ wanted ⌝ }
 {
     let capped = cap(exclusion, wanted, n);
     let mut left = looks(exclusion) * capped;

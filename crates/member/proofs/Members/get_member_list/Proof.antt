@@ -12,9 +12,11 @@ pick-requires c κs =
 returns : tie.Need-returns
 returns c =
     let s = c .before .before .before .before .before .before .before in
-    let a = s .args in
-    picked-is (a .self) (s .pre .0) (a .own) (a .exclusion) (a .wanted) (a .draws .now) (a .from)
-    (c .before .before .before .before .pick .result) (c .before .before .before .before .pick .ensures)
+    let a = s .args in (
+      picked-is (a .self) (s .pre .0) (a .own) (a .exclusion) (a .wanted) (a .draws .now) (a .from)
+          (c .before .before .before .before .pick .result) (c .before .before .before .before .pick .ensures .0),
+      c .before .before .before .before .pick .ensures .1,
+    )
 
 pub get-member-list-spec : {M : Type 1} → statement M
 get-member-list-spec =
