@@ -9,7 +9,7 @@ ghost use Rattle.model.specs.IPv4.{ipv4};
 ghost use Rattle.model.specs.Rows.{insertAt, removeAt, padTo};
 ghost use Rattle.model.specs.Members.{passed as passedOver, looks as looksOf, cap as capOf};
 ghost use Rattle.model.specs.Places.{placeOf};
-ghost use Rattle.order.specs.Views.{shuffledOf, Ready, turnedOf, excluded, picksOf, notedOf, goesOn, pickedOf};
+ghost use Rattle.order.specs.Views.{shuffledOf, Ready, turnedOf, excluded, picksOf, notedOf, goesOn, refusedPick, pickedOf};
 
 // The order of a list, and the place that is probed next.
 pub struct Order {
@@ -270,6 +270,17 @@ pub struct Picked {
     pub drew: Drew,
 }
 
+// A pick that was refused: the order as it came, and nobody.
+fn without(order: Order, refusal: Refusal) -> Picked
+    ensures { λ r. ⌜ r ≡ refusedPick order refusal ⌝ }
+{
+    Picked {
+        order,
+        picks: Picks::none(),
+        drew: Drew::Refused(refusal),
+    }
+}
+
 // As many as are wanted after the cap: each look advances, own and excluded addresses are passed over, and one peer may come twice.
 pub fn pick(
     order: Order,
@@ -297,13 +308,7 @@ pub fn pick(
         let drew = turned.drew;
         match drew {
             Drew::Used(used) => next += used,
-            Drew::Refused(refusal) => {
-                return Picked {
-                    order,
-                    picks: Picks::none(),
-                    drew: Drew::Refused(refusal),
-                };
-            }
+            Drew::Refused(refusal) => return without(order, refusal),
         }
         ahead = turned.order;
         picks = noted(picks, x, passed(own, exclusion, x));

@@ -9,8 +9,7 @@ use mir.Val.{Fits}
 use mir.Syntax.{w64}
 use lib.ListN.{length}
 use lib.Dec.{lit<}
-use Rattle.order.specs.declared.Drew.the-variants.{Refused}
-use Rattle.order.specs.declared.Picks.{Picks}
+use Rattle.order.specs.declared.Picked.{Picked}
 use Rattle.order.specs.Views.{goesOn}
 use Rattle.order.proofs.Picking.{Left, left-start, left-stop, left-short, left-look, left-count, look-bounds, used-fits}
 use borrow.Author.Needs.{needs}
@@ -76,8 +75,8 @@ returns c =
     let v = c .before .before .before .before in
     let l = v .before .before .before .before .loop in
     let a = v .before .before .before .before .before .before .before .before .before .args in
-    let none : c .none2 .result .count ≡ 0 = ap (λ (p : Picks). p .count) (c .none2 .ensures) in (
-      (λ i. record { order = a .order; picks = c .none2 .ensures i; drew = Refused (c .before .before .drew2 .given .0 .0) })
+    let nobody : c .without .result .picks .count ≡ 0 = ap (λ (p : Picked). p .picks .count) (c .without .ensures) in (
+      c .without .ensures
           ∙ left-short (a .order) (a .n) (a .own) (a .exclusion) (a .wanted) (a .draws .now) (a .from) _ (l .left) (l .ahead) (l .picks) (l .next) (v .advance .result) _
           (l .inv) (going (v .before .before)) (v .advance .ensures) (c .before .before .drew2 .given .1),
       omega arith,
