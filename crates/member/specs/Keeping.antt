@@ -2,21 +2,20 @@
 -- Assumes nothing.
 use mathlib.Core.Path.{_≡_, refl}
 use mathlib.Core.Bool.{true, false}
-use mathlib.Core.List.{List}
-use Prim.Native.Nat.{ℕ, _-_, _<_}
+use mathlib.Core.List.{List, []}
+use mathlib.Core.Option.{Option, none, some}
+use Prim.Native.Nat.{ℕ, _≤_, _<_}
 use native.Mathlib.Omega.{arith}
-use lib.ListN.{drop}
-use Rattle.model.specs.Rows.{one}
+use lib.ListN.{length, drop}
 use Rattle.model.specs.Answers.{Answer, done, refused}
 use Rattle.model.specs.After.{After, halts, gives}
 use Rattle.model.specs.IPv4.{ipv4, ipv4-test}
-use Rattle.model.specs.Words as words
 use Rattle.model.specs.Members as list
 use Rattle.model.specs.Counts.{one-le}
 use Rattle.model.specs.Whole.{Whole, add-whole, remove-whole, update-whole, advance-whole}
-use Rattle.model.specs.Picks.{pick-whole}
+use Rattle.model.specs.Picks.{Drawn, drawn, Chosen, pick-ends, pick-whole}
 use Rattle.order.specs.declared.Exclusion.{Exclusion}
-use Rattle.order.specs.Views.{excluded}
+use Rattle.order.specs.Views.{excluded, pickedRow}
 use Rattle.member.specs.declared.Member.{Member}
 use Rattle.member.specs.declared.Members.{Members}
 use Rattle.member.specs.Views.{toMember, viewMembers, packMembers, freshList, Held, keptMembers, addedOf, advancedOf, pickedMembers, pickedOf}
@@ -76,3 +75,20 @@ kept-view m l rest w = view-pack l (w .long)
 
 pub packed-view : (l : list.Members ℕ) → Whole (ipv4 .same) l → viewMembers (packMembers l) ≡ l
 packed-view l w = view-pack l (w .long)
+
+-- a pick gives at most as many as are wanted
+cap-wanted : (own : ℕ) (e : Option ℕ) (wanted n : ℕ) → list.cap (ipv4 .same) (ipv4 .blank) own e wanted n ≤ wanted
+cap-wanted own none wanted n = omega arith
+cap-wanted own (some x) wanted n = omega arith
+
+pub pick-count : (m : Members) → Held m → (own : ℕ) (e : Exclusion) (wanted : ℕ) (draws : List ℕ) (from : ℕ)
+    → pickedOf m own e wanted draws from .picks .count ≤ wanted
+pick-count m g own e wanted draws from =
+    counted (list.pickFrom (ipv4 .same) (ipv4 .blank) own (excluded e) wanted (viewMembers m) (drop from draws))
+    (pick-ends (ipv4 .same) (ipv4 .blank) own (excluded e) wanted (viewMembers m) (drop from draws) (g .whole))
+  where
+    counted : (x : Answer (list.Picked ℕ))
+        → Drawn (Chosen (ipv4 .same) (ipv4 .blank) own (viewMembers m) (list.cap (ipv4 .same) (ipv4 .blank) own (excluded e) wanted (length (viewMembers m .order))) []) x
+        → pickedRow x .count ≤ wanted
+    counted (refused r) d = omega arith
+    counted (done p rest) (drawn c) = omega (arith, c .many, cap-wanted own (excluded e) wanted (length (viewMembers m .order)))

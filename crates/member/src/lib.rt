@@ -317,7 +317,6 @@ impl Members {
     ) -> Picked
         requires { ⌜ Held self × (wanted ≤ 4) × (from ≤ length (now draws)) ⌝ }
         ensures { λ r. ⌜ r ≡ pickedOf self own exclusion wanted (now (draws .entry)) from ⌝ }
-        ensures within { λ r. ⌜ r .picks .count ≤ wanted ⌝ }
     {
         let row = self.order;
         let position = self.position;

@@ -4,14 +4,14 @@ use crate::Members;
 use address::Address;
 use model::State;
 ghost use mathlib.Core.Path.{_≡_};
-ghost use mathlib.Core.Bool.{true, _&&_};
+ghost use mathlib.Core.Bool.{_&&_};
 ghost use mathlib.Core.List.{map};
 ghost use Prim.Native.Nat.{_≤_};
-ghost use lib.ListN.{length, take, drop};
+ghost use lib.ListN.{take, drop};
 ghost use Rattle.model.specs.IPv4.{ipv4};
 ghost use Rattle.model.specs.Rows.{every};
 ghost use Rattle.model.specs.Sound.{distinct, permutes, positioned, isNoMember, soundMembers};
-ghost use Rattle.member.specs.Views.{toMember, addrOf, blankAddress, Held};
+ghost use Rattle.member.specs.Views.{toMember, addrOf, blankAddress};
 
 // Position below the length, or 0 if the list is empty.
 fn well_placed(position: usize, n: usize) -> bool
@@ -26,7 +26,6 @@ fn well_placed(position: usize, n: usize) -> bool
 // The addresses of the table, as a row.
 fn addresses(table: [Member; Members::CAPACITY]) -> [Address; Members::CAPACITY]
     ensures { λ r. ⌜ r ≡ map addrOf table ⌝ }
-    ensures long { λ r. ⌜ length table ≡ 64 ⌝ }
 {
     let mut out = [address::blank(); Members::CAPACITY];
     let mut i = 0;
@@ -43,7 +42,6 @@ fn addresses(table: [Member; Members::CAPACITY]) -> [Address; Members::CAPACITY]
 fn matches(row: [Address; Members::CAPACITY], order: [Address; Members::CAPACITY], n: usize) -> bool
     requires { ⌜ n ≤ 64 ⌝ }
     ensures { λ r. ⌜ r ≡ (distinct (ipv4 .same) (take n row) && permutes (ipv4 .same) (take n order) (take n row)) ⌝ }
-    ensures long { λ r. ⌜ length order ≡ 64 ⌝ }
 {
     let mut marks = [false; Members::CAPACITY];
     let mut i = 0;
@@ -125,7 +123,6 @@ fn order_ends(order: [Address; Members::CAPACITY], n: usize) -> bool
 // Counts, distinct addresses, the order a permutation of them, the position, addresses in range, and every unused place zero.
 pub fn sound_members(m: Members) -> bool
     ensures { λ r. ⌜ r ≡ soundMembers ipv4 (map toMember (m .table)) (m .order) (m .len) (m .position) ⌝ }
-    ensures held { λ r. ⌜ (r ≡ true → Held m) ⌝ }
 {
     let n = m.len;
     if Members::CAPACITY < n {

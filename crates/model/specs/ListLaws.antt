@@ -4,41 +4,20 @@ use mathlib.Core.Path.{_≡_, refl, ap, sym, _∙_}
 use mathlib.Core.Bool.{Bool, true, false}
 use mathlib.Core.List.{List, [], _∷_, _++_}
 use mathlib.Core.Option.{Option}
-use Prim.Native.Nat.{ℕ, suc, _+_, _-_, _%_, _≤_, _<_}
+use Prim.Native.Nat.{ℕ, suc, _+_, _-_, _%_, _<_}
 use native.Mathlib.Omega.{arith}
 use lib.ListN.{length}
 use Rattle.model.specs.declared.State.the-variants.{Alive}
-use Rattle.model.specs.Rows.{one, pick, has, occurs, erase, Test}
+use Rattle.model.specs.Rows.{one, pick, has, occurs, Test}
 use Rattle.model.specs.After.{After, gives, after-map, after-when, after-then}
 use Rattle.model.specs.Words.{Member}
 use Rattle.model.specs.Members.{Members, addrs, listed, strike, put, held, heldState, added, remove, update, shuffle, advance, pickFrom}
-use Rattle.model.specs.Counts.{occurs-insertAt, occurs-erase, has-le, has-is}
+use Rattle.model.specs.Counts.{occurs-insertAt, occurs-erase, has-le}
 use Rattle.model.specs.Whole.{Whole, shuffle-alike, count-added, put-addrs, strike-addrs, addrs-append}
+use Rattle.model.specs.Held.{has-append, has-erase}
 use Rattle.model.specs.Picks.{after-drawn, pick-ends}
 
-diff : (x y u : Bool) → one x + one u ≡ one y → x ≡ pick u false y
-diff true true true e = absurd (omega arith)
-diff true false true e = absurd (omega arith)
-diff false true true e = refl
-diff false false true e = refl
-diff true true false e = refl
-diff true false false e = absurd (omega arith)
-diff false true false e = absurd (omega arith)
-diff false false false e = refl
-
 module _ {A : Type 0} (same : A → A → Bool) where
-  pub has-append : (a b : A) (l : List A) → has same a (l ++ (b ∷ [])) ≡ pick (has same a l) true (same a b)
-  has-append a b [] =
-      elim (same a b) as (λ u. pick u true false ≡ u) [
-        | true ↦ refl
-        | false ↦ refl
-      ]
-  has-append a b (x ∷ l) =
-      elim (same a x) as (λ u. pick u true (has same a (l ++ (b ∷ []))) ≡ pick (pick u true (has same a l)) true (same a b)) [
-        | true ↦ refl
-        | false ↦ has-append a b l
-      ]
-
   -- what a table says of an address, by any part of a record: its number and its state are two such parts
   module _ {B : Type 0} (part : Member A → B) (without : B) where
     abbrev look : A → List (Member A) → B
@@ -141,13 +120,6 @@ module _ {A : Type 0} (same : A → A → Bool) where
     said-strike a b t q =
         says-same a t (strike same b t) (look-strike (λ k. k .number) 0 test a b t q) (look-strike (λ k. k .state) Alive test a b t q)
 
-    pub has-erase : (a b : A) (l : List A) → occurs same a l ≤ 1 → has same b l ≡ true → has same a (erase same b l) ≡ pick (same a b) false (has same a l)
-    has-erase a b l o h =
-        let in-l : 0 < occurs same b l = omega (arith, has-le same b l, ap one h) in
-        let c : occurs same a (erase same b l) + one (same a b) ≡ occurs same a l = occurs-erase same test b a l in-l in
-        diff (has same a (erase same b l)) (has same a l) (same a b)
-        (omega (arith, c, has-is same a l o, has-is same a (erase same b l) (omega arith)))
-
     -- how often b stands in the table and in the order, once an operation has added plus of it and taken minus of it
     pub record Counted (b : A) (plus minus : ℕ) (r r′ : Members A) : Type 0 where
       pub table : occurs same b (addrs (r′ .table)) + minus ≡ occurs same b (addrs (r .table)) + plus
@@ -167,7 +139,7 @@ module _ {A : Type 0} (same : A → A → Bool) where
     unfolding added
     added-listed a b n d r =
         let m : Member A = record { addr = a; state = Alive; number = n } in
-        ap (has same b) (addrs-append same (r .table) (m ∷ [])) ∙ has-append b a (addrs (r .table))
+        ap (has same b) (addrs-append same (r .table) (m ∷ [])) ∙ has-append same b a (addrs (r .table))
 
     pub added-says : (a : A) (n d : ℕ) (r : Members A) → listed same a (r .table) ≡ false
         → Says a (record { addr = a; state = Alive; number = n }) (added same a n d r .table)
@@ -193,7 +165,7 @@ module _ {A : Type 0} (same : A → A → Bool) where
         → listed same b (remove same a r .table) ≡ pick (same b a) false (listed same b (r .table))
     unfolding remove
     removed-listed a b r w e =
-        ap (has same b) (strike-addrs same test a (r .table)) ∙ has-erase b a (addrs (r .table)) (w .once b) e
+        ap (has same b) (strike-addrs same test a (r .table)) ∙ has-erase same test b a (addrs (r .table)) (w .once b) e
 
     pub removed-other : (a b : A) (r : Members A) → same b a ≡ false → SaysSame b (r .table) (remove same a r .table)
     unfolding remove

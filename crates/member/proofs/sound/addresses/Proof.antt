@@ -45,7 +45,7 @@ returns c =
     let L : List ℕ = map addrOf (a .t1) in
     let hl : length (a .t1) ≡ 64 = search needs in
     let n : length L ≡ 64 = length-map (a .t1) addrOf ∙ hl in
-    (l .inv .1 ∙ ap (λ (x : List ℕ). padTo 64 0 x) (take-all (l .i) L (omega arith)) ∙ full 64 0 L n, hl)
+    l .inv .1 ∙ ap (λ (x : List ℕ). padTo 64 0 x) (take-all (l .i) L (omega arith)) ∙ full 64 0 L n
 
 pub addresses-spec : {M : Type 1} → statement M
 addresses-spec =

@@ -61,22 +61,16 @@ returns : tie.Need-returns Inv-loop μ-loop
 returns c =
     let f = c .before in
     let a = f .before .before .before .before .args in
-    let ho : length (a .t2) ≡ 64 = search needs in (
-      mark-absent (ipv4 .same) ipv4-test 0 (take (a .n) (a .t2)) (take (a .n) (a .t1)) (f .before .before .before .loop .i) (omega (arith, long-row f))
-          (sought f ∙ c .if1 .taken ∙ sym (long-order f)),
-      ho,
-    )
+    mark-absent (ipv4 .same) ipv4-test 0 (take (a .n) (a .t2)) (take (a .n) (a .t1)) (f .before .before .before .loop .i) (omega (arith, long-row f))
+    (sought f ∙ c .if1 .taken ∙ sym (long-order f))
 
 returns-2 : tie.Need-returns-2 Inv-loop μ-loop
 returns-2 c =
     let f = c .before .before in
     let a = f .before .before .before .before .args in
     let l = f .before .before .before .loop in
-    let ho : length (a .t2) ≡ 64 = search needs in (
-      mark-again (ipv4 .same) ipv4-test 0 (take (a .n) (a .t2)) (take (a .n) (a .t1)) (l .marks) (l .i) (l .inv .marked) (omega (arith, long-row f))
-          (omega (arith, sought f, long-order f, f .find-place .ensures .1, c .before .if1 .left)) (ap (λ (p : ℕ). getD (l .marks) p false) (sought f) ∙ c .if2 .taken),
-      ho,
-    )
+    mark-again (ipv4 .same) ipv4-test 0 (take (a .n) (a .t2)) (take (a .n) (a .t1)) (l .marks) (l .i) (l .inv .marked) (omega (arith, long-row f))
+    (omega (arith, sought f, long-order f, f .find-place .ensures .1, c .before .if1 .left)) (ap (λ (p : ℕ). getD (l .marks) p false) (sought f) ∙ c .if2 .taken)
 
 loop-again : tie.Need-loop-again Inv-loop μ-loop
 loop-again c =
@@ -102,7 +96,7 @@ returns-3 c =
     let hr : length (a .t1) ≡ 64 = search needs in
     let lo : length (take (a .n) (a .t2)) ≡ a .n = length-take-le (a .n) (a .t2) (omega arith) in
     let lr : length (take (a .n) (a .t1)) ≡ a .n = length-take-le (a .n) (a .t1) (omega arith) in
-    (mark-end (ipv4 .same) ipv4-test (take (a .n) (a .t2)) (take (a .n) (a .t1)) (l .marks) (l .i) (l .inv .marked) (omega arith) (omega arith), ho)
+    mark-end (ipv4 .same) ipv4-test (take (a .n) (a .t2)) (take (a .n) (a .t1)) (l .marks) (l .i) (l .inv .marked) (omega arith) (omega arith)
 
 pub matches-spec : {M : Type 1} → statement M
 matches-spec =

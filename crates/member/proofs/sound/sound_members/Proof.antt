@@ -1,10 +1,9 @@
 -- `member::sound::sound_members` meets its contract: each way out by the tests that led there.
 -- Assumes nothing.
 use mathlib.Core.Path.{_≡_, ap, sym, _∙_}
-use mathlib.Core.Bool.{Bool, true, false, _&&_}
+use mathlib.Core.Bool.{true, _&&_}
 use mathlib.Core.List.{List, map}
 use Prim.Native.Nat.{ℕ}
-use native.Mathlib.Omega.{arith}
 use lib.ListN.{take}
 use lib.Dec.{leb}
 use borrow.Author.Tests.{le-leb, lt-leb, not-true, not-false}
@@ -12,14 +11,10 @@ use Rattle.model.specs.IPv4.{ipv4}
 use Rattle.model.specs.Rows.{every}
 use Rattle.model.specs.Sound.{positioned, distinct, permutes}
 use Rattle.member.specs.Views.{addrOf}
-use Rattle.member.specs.Soundness.{sound-parts, stops-1, stops-2, stops-3, stops-4, stops-5, sound-last, sound-held}
+use Rattle.member.specs.Soundness.{sound-parts, stops-1, stops-2, stops-3, stops-4, stops-5, sound-last}
 use borrow.Author.Needs.{needs}
 use Rattle.member.proofs.sound.sound_members.Statement.{statement}
 use Rattle.member.proofs.sound.sound_members.Tie as tie
-
--- a test that failed says nothing
-never : {B : Type 0} → _≡_ {A = Bool} false true → B
-never h = let z : _≡_ {A = ℕ} 0 1 = cc in absurd (omega arith)
 
 -- what has passed where each test was left
 few : (c : tie.Else1) → leb (c .before .args .m .len) 64 ≡ true
@@ -34,43 +29,35 @@ ranged : (c : tie.After-all-in-range)
     ≡ c .all-in-range .result
 ranged c =
     let m = c .before .before .before .before .before .before .before .args .m in
-    ap (λ (r : List ℕ). every (ipv4 .valid) (take (m .len) r)) (sym (c .before .addresses .ensures .0)) ∙ sym (c .all-in-range .ensures)
+    ap (λ (r : List ℕ). every (ipv4 .valid) (take (m .len) r)) (sym (c .before .addresses .ensures)) ∙ sym (c .all-in-range .ensures)
 
 returns : tie.Need-returns
 returns c =
-    let m = c .before .args .m in (
-      stops-1 _ _ _ _ _ _ (lt-leb (m .len) 64 (c .if1 .taken)) ∙ sym (sound-parts (m .table) (m .order) (m .len) (m .position)),
-      never,
-    )
+    let m = c .before .args .m in
+    stops-1 _ _ _ _ _ _ (lt-leb (m .len) 64 (c .if1 .taken)) ∙ sym (sound-parts (m .table) (m .order) (m .len) (m .position))
 
 returns-2 : tie.Need-returns-2
 returns-2 c =
-    let m = c .before .before .before .args .m in (
-      stops-2 _ _ _ _ _ _ (few (c .before .before)) (sym (c .before .well-placed .ensures) ∙ not-true _ (c .if2 .taken))
-          ∙ sym (sound-parts (m .table) (m .order) (m .len) (m .position)),
-      never,
-    )
+    let m = c .before .before .before .args .m in
+    stops-2 _ _ _ _ _ _ (few (c .before .before)) (sym (c .before .well-placed .ensures) ∙ not-true _ (c .if2 .taken))
+    ∙ sym (sound-parts (m .table) (m .order) (m .len) (m .position))
 
 returns-3 : tie.Need-returns-3
 returns-3 c =
     let r = c .before in
     let p = r .before .before .before .before in
-    let m = p .before .before .before .args .m in (
-      stops-3 _ _ _ _ _ _ (few (p .before .before)) (placed p) (ranged r ∙ not-true _ (c .if3 .taken))
-          ∙ sym (sound-parts (m .table) (m .order) (m .len) (m .position)),
-      never,
-    )
+    let m = p .before .before .before .args .m in
+    stops-3 _ _ _ _ _ _ (few (p .before .before)) (placed p) (ranged r ∙ not-true _ (c .if3 .taken))
+    ∙ sym (sound-parts (m .table) (m .order) (m .len) (m .position))
 
 returns-4 : tie.Need-returns-4
 returns-4 c =
     let t = c .before in
     let r = t .before .before in
     let p = r .before .before .before .before in
-    let m = p .before .before .before .args .m in (
-      stops-4 _ _ _ _ _ _ (few (p .before .before)) (placed p) (ranged r ∙ not-false _ (t .before .if3 .left)) (sym (t .table-ends .ensures) ∙ not-true _ (c .if4 .taken))
-          ∙ sym (sound-parts (m .table) (m .order) (m .len) (m .position)),
-      never,
-    )
+    let m = p .before .before .before .args .m in
+    stops-4 _ _ _ _ _ _ (few (p .before .before)) (placed p) (ranged r ∙ not-false _ (t .before .if3 .left)) (sym (t .table-ends .ensures) ∙ not-true _ (c .if4 .taken))
+    ∙ sym (sound-parts (m .table) (m .order) (m .len) (m .position))
 
 returns-5 : tie.Need-returns-5
 returns-5 c =
@@ -78,12 +65,10 @@ returns-5 c =
     let t = o .before .before in
     let r = t .before .before in
     let p = r .before .before .before .before in
-    let m = p .before .before .before .args .m in (
-      stops-5 _ _ _ _ _ _ (few (p .before .before)) (placed p) (ranged r ∙ not-false _ (t .before .if3 .left))
-          (sym (t .table-ends .ensures) ∙ not-false _ (o .before .if4 .left)) (sym (o .order-ends .ensures) ∙ not-true _ (c .if5 .taken))
-          ∙ sym (sound-parts (m .table) (m .order) (m .len) (m .position)),
-      never,
-    )
+    let m = p .before .before .before .args .m in
+    stops-5 _ _ _ _ _ _ (few (p .before .before)) (placed p) (ranged r ∙ not-false _ (t .before .if3 .left))
+    (sym (t .table-ends .ensures) ∙ not-false _ (o .before .if4 .left)) (sym (o .order-ends .ensures) ∙ not-true _ (c .if5 .taken))
+    ∙ sym (sound-parts (m .table) (m .order) (m .len) (m .position))
 
 returns-6 : tie.Need-returns-6
 returns-6 c =
@@ -93,12 +78,10 @@ returns-6 c =
     let r = t .before .before in
     let p = r .before .before .before .before in
     let m = p .before .before .before .args .m in
-    let right =
     sound-last m (c .matches .result) (few (p .before .before)) (placed p) (ranged r ∙ not-false _ (t .before .if3 .left))
     (sym (t .table-ends .ensures) ∙ not-false _ (o .before .if4 .left)) (sym (o .order-ends .ensures) ∙ not-false _ (e .if5 .left))
-    (c .matches .ensures .0
-    ∙ ap (λ (x : List ℕ). distinct (ipv4 .same) (take (m .len) x) && permutes (ipv4 .same) (take (m .len) (m .order)) (take (m .len) x)) (r .before .addresses .ensures .0)) in
-    (right, λ h. sound-held m (r .before .addresses .ensures .1) (c .matches .ensures .1) (sym right ∙ h))
+    (c .matches .ensures
+    ∙ ap (λ (x : List ℕ). distinct (ipv4 .same) (take (m .len) x) && permutes (ipv4 .same) (take (m .len) (m .order)) (take (m .len) x)) (r .before .addresses .ensures))
 
 pub sound-members-spec : {M : Type 1} → statement M
 sound-members-spec =
