@@ -7,6 +7,7 @@ use lib.ListN.{length, getD, set, take, length-map, List·getD-map}
 use lib.Seq.{length-take-le, getD-take}
 use Rattle.model.specs.Rows.{removeAt}
 use Rattle.model.specs.IPv4.{ipv4}
+use Rattle.model.specs.Packing.{map-removeAt}
 use Rattle.model.specs.Words as words
 use Rattle.model.specs.Members as list
 use Rattle.member.specs.declared.Member.{Member}
@@ -26,11 +27,6 @@ addrs-long n t h = length-map (map toMember (take n t)) (λ m. m .addr) ∙ leng
 -- the record at a place
 pub record-at : (n : ℕ) (t : List Member) (i : ℕ) → i < n → getD (map toMember (take n t)) i (words.noMember ipv4) ≡ toMember (getD t i nobody)
 record-at n t i h = List·getD-map toMember (take n t) i nobody ∙ ap toMember (getD-take n t i nobody h)
-
-map-removeAt : {A B : Type 0} (f : A → B) (l : List A) (i : ℕ) → map f (removeAt l i) ≡ removeAt (map f l) i
-map-removeAt f [] i = refl
-map-removeAt f (x ∷ l) zero = refl
-map-removeAt f (x ∷ l) (suc i) = ap (λ m. f x ∷ m) (map-removeAt f l i)
 
 map-set : {A B : Type 0} (f : A → B) (l : List A) (i : ℕ) (x : A) → map f (set l i x) ≡ set (map f l) i (f x)
 map-set f [] i x = refl

@@ -2,3 +2,4 @@
 pub mod Views
 pub mod Packing
 pub mod Soundness
+pub mod Keeping

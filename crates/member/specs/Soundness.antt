@@ -3,7 +3,7 @@
 use mathlib.Core.Path.{_≡_, refl, ap, sym, _∙_, subst}
 use mathlib.Core.Bool.{Bool, true, false, _&&_}
 use mathlib.Core.List.{List, [], _∷_, _++_, map}
-use Prim.Native.Nat.{ℕ, zero, suc, _-_, _≤_}
+use Prim.Native.Nat.{ℕ, zero, suc, _-_}
 use native.Mathlib.Omega.{arith}
 use lib.ListN.{length, take, drop, replicate, length-map, take-append-drop}
 use lib.Seq.{length-take-le}
@@ -14,10 +14,10 @@ use Rattle.model.specs.Words as words
 use Rattle.model.specs.Members as list
 use Rattle.model.specs.Sound.{distinct, permutes, positioned, isNoMember, soundMembers}
 use Rattle.model.specs.Whole.{Whole}
-use Rattle.model.specs.SoundList.{SoundList, sound-is, whole-sound}
+use Rattle.model.specs.SoundList.{sound-is, whole-sound}
 use Rattle.member.specs.declared.Member.{Member}
 use Rattle.member.specs.declared.Members.{Members}
-use Rattle.member.specs.Views.{toMember, fromMember, nobody, addrOf, blankAddress, viewMembers, packMembers, Packed, Held}
+use Rattle.member.specs.Views.{toMember, fromMember, nobody, addrOf, blankAddress, viewMembers, packMembers, Held}
 use Rattle.member.specs.Packing.{from-to, to-from}
 
 pub take-map : {A B : Type 0} (f : A → B) (n : ℕ) (l : List A) → take n (map f l) ≡ map f (take n l)
@@ -61,9 +61,9 @@ module _ (a b c d e f : Bool) where
   unfolding tests
   stops-5 p q r s t = rw (p, q, r, s, t)
 
-  pub last : a ≡ true → b ≡ true → c ≡ true → d ≡ true → e ≡ true → f ≡ tests a b c d e f
+  last : (u : Bool) → u ≡ f → a ≡ true → b ≡ true → c ≡ true → d ≡ true → e ≡ true → u ≡ tests a b c d e f
   unfolding tests
-  last p q r s t = rw (p, q, r, s, t)
+  last u v p q r s t = rw (p, q, r, s, t) v
 
 and-false : (x : Bool) → (x && false) ≡ false
 and-false true = refl
@@ -101,6 +101,15 @@ sound-parts t o n p =
     (addrs-row n t)
     ∙ reorder (leb n 64) (distinct (ipv4 .same) (take n (map addrOf t))) (permutes (ipv4 .same) (take n o) (take n (map addrOf t)))
     (positioned p n) (every (ipv4 .valid) (take n (map addrOf t))) (every (isNoMember ipv4) (drop n (map toMember t))) (every blankAddress (drop n o))
+
+-- all but the last test have passed
+pub sound-last : (m : Members) (u : Bool) → leb (m .len) 64 ≡ true → positioned (m .position) (m .len) ≡ true
+    → every (ipv4 .valid) (take (m .len) (map addrOf (m .table))) ≡ true → every (isNoMember ipv4) (drop (m .len) (map toMember (m .table))) ≡ true
+    → every blankAddress (drop (m .len) (m .order)) ≡ true
+    → u ≡ (distinct (ipv4 .same) (take (m .len) (map addrOf (m .table)))
+    && permutes (ipv4 .same) (take (m .len) (m .order)) (take (m .len) (map addrOf (m .table))))
+    → u ≡ soundMembers ipv4 (map toMember (m .table)) (m .order) (m .len) (m .position)
+sound-last m u p q r s t v = last _ _ _ _ _ _ u v p q r s t ∙ sym (sound-parts (m .table) (m .order) (m .len) (m .position))
 
 map-replicate : {A B : Type 0} (f : A → B) (n : ℕ) (x : A) → map f (replicate n x) ≡ replicate n (f x)
 map-replicate f zero x = refl

@@ -252,7 +252,7 @@ impl Members {
             return self;
         }
         let row = self.order;
-        let at = order::find_place(row, n, a);
+        let at = order::find_place(&row, n, a);
         Members {
             table: close_up(table, n, place),
             // The order by value, one place less.

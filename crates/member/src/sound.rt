@@ -46,7 +46,7 @@ fn matches(row: [Address; Members::CAPACITY], order: [Address; Members::CAPACITY
     let mut marks = [false; Members::CAPACITY];
     let mut i = 0;
     while i < n {
-        let place = order::find_place(order, n, row[i]);
+        let place = order::find_place(&order, n, row[i]);
         if place == n {
             return false;
         }

@@ -1,21 +1,20 @@
 -- A loop that tests each place of a list, and one that marks: each passed place is found in the other list, at a place not yet marked.
 -- Assumes nothing.
-use mathlib.Core.Logic.{_≢_}
 use mathlib.Core.Path.{_≡_, refl, ap, sym, _∙_}
 use mathlib.Core.Bool.{Bool, true, false, not, _&&_}
 use mathlib.Core.List.{List, [], _∷_, _++_}
-use Prim.Native.Nat.{ℕ, zero, suc, _+_, _-_, _≤_, _<_}
+use Prim.Native.Nat.{ℕ, suc, _+_, _-_, _≤_, _<_}
 use native.Mathlib.Omega.{arith}
 use native.Mathlib.Decide.{ℕ-discrete}
 use native.Mathlib.Numerals.{add-one}
 use lib.ListN.{length, getD, set, take, drop, take-append-drop, drop-of-length-le}
 use lib.Seq.{drop-cons, take-suc, take-all, getD-set-same, getD-set-other}
-use lib.Dec.{ltb}
 use borrow.Author.Tests.{lt-ltb, le-ltb}
 use Rattle.model.specs.Rows.{one, pick, every, has, occurs, Test}
 use Rattle.model.specs.Sound.{distinct, permutes}
 use Rattle.model.specs.Counts.{occurs-append, has-le, has-none}
 use Rattle.model.specs.Distinct.{all-in, once-distinct, distinct-once, permutes-counts, counts-permutes, pigeons}
+use Rattle.model.specs.Held.{has-append}
 use Rattle.model.specs.Places.{placeOf, has-place, place-holds}
 
 -- the test of each place from one on is that of each place from i on: those between have passed
@@ -93,14 +92,6 @@ module _ {A : Type 0} (same : A → A → Bool) (test : Test same) where
         | false ↦ λ r. r
       ]) p
 
-  has-snoc : (a x : A) (l : List A) → has same a (l ++ (x ∷ [])) ≡ pick (has same a l) true (same a x)
-  has-snoc a x [] = elim (same a x) as (λ u. pick u true false ≡ u) [ true ↦ refl | false ↦ refl ]
-  has-snoc a x (y ∷ l) =
-      elim (same a y) as (λ u. pick u true (has same a (l ++ (x ∷ []))) ≡ pick (pick u true (has same a l)) true (same a x)) [
-        | true ↦ refl
-        | false ↦ has-snoc a x l
-      ]
-
   -- its place is marked now
   pub mark-next : (d : A) (o t : List A) (marks : List Bool) (i : ℕ) → Marked o t marks i → i < length t → length o ≤ length marks
       → placeOf same (getD t i d) o < length o → getD marks (placeOf same (getD t i d) o) false ≡ false
@@ -127,12 +118,12 @@ module _ {A : Type 0} (same : A → A → Bool) (test : Test same) where
                   let y : same a x ≡ true = ap (λ (c : A). same c x) b ∙ test .same-refl x in
                   ap (λ (j : ℕ). getD (set marks p true) j false) q
                   ∙ getD-set-same marks p true false (omega arith)
-                  ∙ sym (ap (has same a) s ∙ has-snoc a x (take i t) ∙ ap (pick (has same a (take i t)) true) y ∙ always (has same a (take i t)))
+                  ∙ sym (ap (has same a) s ∙ has-append same a x (take i t) ∙ ap (pick (has same a (take i t)) true) y ∙ always (has same a (take i t)))
               | no q ↦
                   let y : same a x ≡ false = is-false (same a x) (λ z. q (ap (λ (c : A). placeOf same c o) (test .same-eq a x z))) in
                   getD-set-other marks p (placeOf same a o) true false q
                   ∙ m .marked a g
-                  ∙ sym (ap (has same a) s ∙ has-snoc a x (take i t) ∙ ap (pick (has same a (take i t)) true) y ∙ itself (has same a (take i t)))
+                  ∙ sym (ap (has same a) s ∙ has-append same a x (take i t) ∙ ap (pick (has same a (take i t)) true) y ∙ itself (has same a (take i t)))
             ]);
       }
     where

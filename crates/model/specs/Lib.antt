@@ -47,3 +47,4 @@ pub mod Padded
 pub mod Checks
 pub mod SoundList
 pub mod Picks
+pub mod ListLaws

@@ -2,17 +2,17 @@
 -- Assumes nothing.
 use mathlib.Core.Path.{_≡_, refl, ap, sym, _∙_, subst}
 use mathlib.Core.Bool.{Bool, true, false, _&&_}
-use mathlib.Core.List.{List, [], _∷_, _++_, map}
-use Prim.Native.Nat.{ℕ, zero, suc, _+_, _-_, _≤_, _<_}
+use mathlib.Core.List.{List, [], _∷_}
+use Prim.Native.Nat.{ℕ, zero, suc, _-_, _≤_, _<_}
 use native.Mathlib.Omega.{arith}
-use lib.ListN.{length, take, drop, replicate, length-take, length-map, length-drop, take-append-drop}
+use lib.ListN.{length, take, drop, replicate, length-drop}
 use lib.Seq.{length-take-le, take-at, drop-at}
 use lib.Dec.{eqb, ltb, leb}
-use borrow.Author.Tests.{eqb-true, eqb-false, ltb-true, leb-true, le-leb, lt-ltb, eq-eqb, ne-eqb}
+use borrow.Author.Tests.{eqb-true, eqb-false, ltb-true, leb-true, le-leb, lt-ltb, eq-eqb}
 use Rattle.model.specs.declared.State.{State}
 use Rattle.model.specs.declared.State.the-variants.{Alive, Pending}
 use Rattle.model.specs.declared.State.the-variants as state
-use Rattle.model.specs.Rows.{pick, every, padTo, Test}
+use Rattle.model.specs.Rows.{pick, every, padTo}
 use Rattle.model.specs.Words.{Address, Lawful, Member, isAlive, noMember}
 use Rattle.model.specs.Pad.{length-padTo}
 use Rattle.model.specs.Members.{Members, addrs}

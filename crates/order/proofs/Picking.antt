@@ -111,9 +111,14 @@ noted-is false got x picks e h =
     (λ i. notedOf (e i) x false)
     ∙ (λ i. record { row = pad-snoc 4 (ipv4 .blank) got x h i; count = sym (length-append got (x ∷ [])) i })
 
+noted-count : (over : Bool) (got : List ℕ) (x c : ℕ) → length got < c → length (pick over got (got ++ (x ∷ []))) ≤ c
+noted-count true got x c h = omega arith
+noted-count false got x c h = omega (arith, length-append got (x ∷ []))
+
 -- the pick as it stands in the loop
 pub record Left (order : Order) (n own : ℕ) (e : Exclusion) (wanted : ℕ) (draws : List ℕ) (from capped left : ℕ) (ahead : Order) (picks : Picks) (next : ℕ) : Type 0 where
   pub few : capped ≤ 4
+  pub most : capped ≤ wanted
   pub room : capped ≤ n - 1
   pub ready : Ready ahead n
   pub behind : drop n (ahead .row) ≡ drop n (order .row)
@@ -121,6 +126,7 @@ pub record Left (order : Order) (n own : ℕ) (e : Exclusion) (wanted : ℕ) (dr
   pub within : next ≤ length draws
   pub got : List ℕ
   pub picked : picks ≡ picksOf got
+  pub count : length got ≤ capped
   pub same :
       list.pickFrom (ipv4 .same) (ipv4 .blank) own (excluded e) wanted (viewOrder order n) (drop from draws)
       ≡ list.seek (ipv4 .same) (ipv4 .blank) own left (excluded e) (capped - length got) got (viewOrder ahead n) (drop next draws)
@@ -140,6 +146,7 @@ module _ (order : Order) (n own : ℕ) (e : Exclusion) (wanted : ℕ) (draws : L
       let whole : capped ≡ capped - 0 = omega arith in
       record {
         few = omega arith;
+        most = b .0;
         room = b .1;
         ready = y;
         behind = refl;
@@ -147,6 +154,7 @@ module _ (order : Order) (n own : ℕ) (e : Exclusion) (wanted : ℕ) (draws : L
         within = h;
         got = [];
         picked = p;
+        count = omega arith;
         same =
             (λ i. list.seek (ipv4 .same) (ipv4 .blank) own (el i * ek i) (excluded e) (ek i) [] (viewOrder order n) (drop from draws))
             ∙ ap (λ (j : ℕ). list.seek (ipv4 .same) (ipv4 .blank) own (looks * capped) (excluded e) j [] (viewOrder order n) (drop from draws)) whole;
@@ -165,6 +173,10 @@ module _ (order : Order) (n own : ℕ) (e : Exclusion) (wanted : ℕ) (draws : L
       let used : next - from ≡ length draws - from - length (drop next draws) = omega (arith, length-drop next draws, f .after, f .within) in
       (λ i. record { order = record { row = row i; position = ahead .position }; picks = f .picked i; drew = Used (used i) })
       ∙ ap (pickedAs order n (length draws - from)) (sym (f .same ∙ s))
+
+  pub left-count : (capped left : ℕ) (ahead : Order) (picks : Picks) (next : ℕ) → Left order n own e wanted draws from capped left ahead picks next
+      → picks .count ≤ wanted
+  left-count capped left ahead picks next f = omega (arith, ap (λ (p : Picks). p .count) (f .picked), f .count, f .most)
 
   -- what follows the advance of a look
   onward : (capped left : ℕ) (ahead : Order) (next : ℕ) (got : List ℕ) → list.Members ℕ → List ℕ → Answer (list.Picked ℕ)
@@ -251,6 +263,7 @@ module _ (order : Order) (n own : ℕ) (e : Exclusion) (wanted : ℕ) (draws : L
       let on : rest ≡ drop (next + used) draws = sym (rest-is draws next (f .within) lv) ∙ ap (λ (i : ℕ). drop (next + i) draws) (a .3) in
       record {
         few = f .few;
+        most = f .most;
         room = f .room;
         ready = subst (λ (y : Order). Ready y n) (sym put)
             (record {
@@ -263,6 +276,7 @@ module _ (order : Order) (n own : ℕ) (e : Exclusion) (wanted : ℕ) (draws : L
         within = omega (arith, f .within, a .3);
         got = pick over got (got ++ (seen ∷ []));
         picked = p ∙ noted-is over got seen picks (f .picked) (omega (arith, f .few));
+        count = noted-count over got seen capped (b .1);
         same =
             f .same
             ∙ looked capped left ahead picks next f g

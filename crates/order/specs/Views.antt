@@ -7,6 +7,7 @@ use mathlib.Core.Option.{Option, none, some}
 use Prim.Native.Nat.{ℕ, _+_, _-_, _≤_}
 use lib.ListN.{length, take, drop, set}
 use lib.Dec.{ltb, eqb}
+use Rattle.model.specs.declared.Refusal.{Refusal}
 use Rattle.model.specs.Answers.{Answer, done, refused}
 use Rattle.model.specs.IPv4.{ipv4}
 use Rattle.model.specs.Rows.{pick, padTo}
@@ -83,6 +84,9 @@ pickedRow (done p rest) = picksOf (p .picks)
 
 abbrev pub pickedAs : Order → ℕ → ℕ → Answer (list.Picked ℕ) → Picked
 pickedAs o n k x = record { order = pickedOrder o n x; picks = pickedRow x; drew = drewOf k x }
+
+abbrev pub refusedPick : Order → Refusal → Picked
+refusedPick o r = record { order = o; picks = picksOf []; drew = Refused r }
 
 abbrev pub pickedOf : Order → ℕ → ℕ → Exclusion → ℕ → List ℕ → ℕ → Picked
 pickedOf o n own e wanted draws from =

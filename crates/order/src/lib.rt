@@ -9,7 +9,7 @@ ghost use Rattle.model.specs.IPv4.{ipv4};
 ghost use Rattle.model.specs.Rows.{insertAt, removeAt, padTo};
 ghost use Rattle.model.specs.Members.{passed as passedOver, looks as looksOf, cap as capOf};
 ghost use Rattle.model.specs.Places.{placeOf};
-ghost use Rattle.order.specs.Views.{shuffledOf, Ready, turnedOf, excluded, picksOf, notedOf, goesOn, pickedOf};
+ghost use Rattle.order.specs.Views.{shuffledOf, Ready, turnedOf, excluded, picksOf, notedOf, goesOn, refusedPick, pickedOf};
 
 // The order of a list, and the place that is probed next.
 pub struct Order {
@@ -28,10 +28,10 @@ pub enum Drew {
     Refused(Refusal),
 }
 
-// The first place that holds an address, or n where none of the first n does.
-pub fn find_place(row: [Address; Order::CAPACITY], n: usize, a: Address) -> usize
-    requires { ⌜ n ≤ 64 ⌝ }
-    ensures { λ r. ⌜ r ≡ placeOf (ipv4 .same) a (take n row) ⌝ }
+// The first place that holds an address, or n where none of the first n does. The row is only read, so it is lent.
+pub fn find_place(row: &[Address; Order::CAPACITY], n: usize, a: Address) -> usize
+    requires { ⌜ (n ≤ 64) × (length (now row) ≡ 64) ⌝ }
+    ensures { λ r. ⌜ r ≡ placeOf (ipv4 .same) a (take n (now (row .entry))) ⌝ }
     ensures within { λ r. ⌜ r ≤ n ⌝ }
 {
     let mut i = 0;
@@ -270,6 +270,17 @@ pub struct Picked {
     pub drew: Drew,
 }
 
+// A pick that was refused: the order as it came, and nobody.
+fn without(order: Order, refusal: Refusal) -> Picked
+    ensures { λ r. ⌜ r ≡ refusedPick order refusal ⌝ }
+{
+    Picked {
+        order,
+        picks: Picks::none(),
+        drew: Drew::Refused(refusal),
+    }
+}
+
 // As many as are wanted after the cap: each look advances, own and excluded addresses are passed over, and one peer may come twice.
 pub fn pick(
     order: Order,
@@ -282,6 +293,7 @@ pub fn pick(
 ) -> Picked
     requires { ⌜ Ready order n × (wanted ≤ 4) × (from ≤ length (now draws)) ⌝ }
     ensures { λ r. ⌜ r ≡ pickedOf order n own exclusion wanted (now (draws .entry)) from ⌝ }
+    ensures within { λ r. ⌜ r .picks .count ≤ wanted ⌝ }
 {
     let capped = cap(exclusion, wanted, n);
     let mut left = looks(exclusion) * capped;
@@ -296,13 +308,7 @@ pub fn pick(
         let drew = turned.drew;
         match drew {
             Drew::Used(used) => next += used,
-            Drew::Refused(refusal) => {
-                return Picked {
-                    order,
-                    picks: Picks::none(),
-                    drew: Drew::Refused(refusal),
-                };
-            }
+            Drew::Refused(refusal) => return without(order, refusal),
         }
         ahead = turned.order;
         picks = noted(picks, x, passed(own, exclusion, x));

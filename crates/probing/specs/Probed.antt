@@ -1,18 +1,18 @@
 -- Among any 2n - 1 pings in a row each of n peers is picked, whatever the draws.
 -- Assumes nothing.
-use mathlib.Core.Path.{_≡_, refl, ap, sym, _∙_, subst}
+use mathlib.Core.Path.{_≡_, refl, ap, sym, _∙_}
 use mathlib.Core.Logic.{_⊎_, inl, inr, ⊎-elim}
 use mathlib.Core.Bool.{Bool, true, false, not}
 use mathlib.Core.List.{List, [], _∷_, _++_}
-use mathlib.Core.Option.{Option, none, some}
-use Prim.Native.Nat.{ℕ, zero, suc, _+_, _-_, _*_, _%_, _≤_, _<_, min}
+use mathlib.Core.Option.{none}
+use Prim.Native.Nat.{ℕ, zero, suc, _+_, _-_, _*_, _≤_, _<_, min}
 use native.Mathlib.Omega.{arith}
 use native.Mathlib.Decide.{ℕ-discrete}
 use lib.ListN.{length, getD, drop, drop-of-length-le}
 use Rattle.model.specs.Rows.{one, pick, has, occurs, Test}
 use Rattle.model.specs.Answers.{Answer, done, refused, andThen}
 use Rattle.model.specs.After.{After, halts, gives, after-then, after-map}
-use Rattle.model.specs.Members.{Members, Picked, addrs, passed, seek, pickFrom}
+use Rattle.model.specs.Members.{Members, Picked, addrs, seek, pickFrom}
 use Rattle.model.specs.Counts.{has-none}
 use Rattle.model.specs.Whole.{Whole}
 use Rattle.model.specs.Picks.{Moved, advance-drawn, after-drawn, here, cost, cost-le, cost-pos, pays, skips-room, skips-drop}

@@ -1,6 +1,6 @@
 -- `order::pick` meets its contract: what is left to look for gives the answer of the whole.
 -- Assumes nothing.
-use mathlib.Core.Path.{_≡_, sym, _∙_}
+use mathlib.Core.Path.{_≡_, ap, sym, _∙_}
 use Prim.Native.Nat.{_+_, _-_, _≤_, _<_}
 use mathlib.Core.Bool.{true}
 use native.Mathlib.Omega.{arith}
@@ -9,9 +9,9 @@ use mir.Val.{Fits}
 use mir.Syntax.{w64}
 use lib.ListN.{length}
 use lib.Dec.{lit<}
-use Rattle.order.specs.declared.Drew.the-variants.{Refused}
+use Rattle.order.specs.declared.Picked.{Picked}
 use Rattle.order.specs.Views.{goesOn}
-use Rattle.order.proofs.Picking.{Left, left-start, left-stop, left-short, left-look, look-bounds, used-fits}
+use Rattle.order.proofs.Picking.{Left, left-start, left-stop, left-short, left-look, left-count, look-bounds, used-fits}
 use borrow.Author.Needs.{needs}
 use Rattle.order.proofs.pick.Statement.{statement}
 use Rattle.order.proofs.pick.Tie as tie
@@ -75,9 +75,12 @@ returns c =
     let v = c .before .before .before .before in
     let l = v .before .before .before .before .loop in
     let a = v .before .before .before .before .before .before .before .before .before .args in
-    (λ i. record { order = a .order; picks = c .none2 .ensures i; drew = Refused (c .before .before .drew2 .given .0 .0) })
-    ∙ left-short (a .order) (a .n) (a .own) (a .exclusion) (a .wanted) (a .draws .now) (a .from) _ (l .left) (l .ahead) (l .picks) (l .next) (v .advance .result) _
-    (l .inv) (going (v .before .before)) (v .advance .ensures) (c .before .before .drew2 .given .1)
+    let nobody : c .without .result .picks .count ≡ 0 = ap (λ (p : Picked). p .picks .count) (c .without .ensures) in (
+      c .without .ensures
+          ∙ left-short (a .order) (a .n) (a .own) (a .exclusion) (a .wanted) (a .draws .now) (a .from) _ (l .left) (l .ahead) (l .picks) (l .next) (v .advance .result) _
+          (l .inv) (going (v .before .before)) (v .advance .ensures) (c .before .before .drew2 .given .1),
+      omega arith,
+    )
 
 noted-requires : tie.Need-noted-requires Inv-loop μ-loop
 noted-requires c κs = bounds (c .before .before .before .before .before .before .before) .2
@@ -102,9 +105,11 @@ sub-t20 c = c .before .before .loop .inv .after
 returns-2 : tie.Need-returns-2 Inv-loop μ-loop
 returns-2 c =
     let l = c .before .before .loop in
-    let a = c .before .before .before .before .before .before .before .args in
-    left-stop (a .order) (a .n) (a .own) (a .exclusion) (a .wanted) (a .draws .now) (a .from) _ (l .left) (l .ahead) (l .picks) (l .next)
-    (l .inv) (sym (c .before .goes-on .ensures) ∙ c .if1 .left)
+    let a = c .before .before .before .before .before .before .before .args in (
+      left-stop (a .order) (a .n) (a .own) (a .exclusion) (a .wanted) (a .draws .now) (a .from) _ (l .left) (l .ahead) (l .picks) (l .next)
+          (l .inv) (sym (c .before .goes-on .ensures) ∙ c .if1 .left),
+      left-count (a .order) (a .n) (a .own) (a .exclusion) (a .wanted) (a .draws .now) (a .from) _ (l .left) (l .ahead) (l .picks) (l .next) (l .inv),
+    )
 
 pub pick-spec : {M : Type 1} → statement M
 pick-spec =

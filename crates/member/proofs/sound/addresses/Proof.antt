@@ -1,11 +1,11 @@
 -- `member::sound::addresses` meets its contract: after i turns the row is the first i addresses, and blanks.
 -- Assumes nothing.
-use mathlib.Core.Path.{_≡_, refl, ap, sym, _∙_}
+use mathlib.Core.Path.{_≡_, ap, _∙_}
 use mathlib.Core.List.{List, _++_, map, append-nil}
-use Prim.Native.Nat.{ℕ, _+_, _-_, _≤_, _<_}
+use Prim.Native.Nat.{ℕ, _+_, _-_, _≤_}
 use native.Mathlib.Omega.{arith}
 use native.Mathlib.Numerals.{add-one}
-use lib.ListN.{length, getD, set, take, replicate, length-map, List·getD-map}
+use lib.ListN.{length, take, replicate, length-map, List·getD-map}
 use lib.Seq.{take-all}
 use Rattle.model.specs.Rows.{padTo}
 use Rattle.model.specs.Pad.{pad-step}

@@ -1,9 +1,9 @@
 -- `member::sound::all_in_range` meets its contract: each of the first i has passed.
 -- Assumes nothing.
-use mathlib.Core.Path.{_≡_, refl, ap, sym, _∙_}
-use Prim.Native.Nat.{ℕ, _+_, _-_, _≤_, _<_}
+use mathlib.Core.Path.{_≡_, ap, sym, _∙_}
+use Prim.Native.Nat.{_-_, _≤_}
 use native.Mathlib.Omega.{arith}
-use lib.ListN.{length, getD, take}
+use lib.ListN.{length, take}
 use lib.Seq.{length-take-le, getD-take}
 use Rattle.model.specs.IPv4.{ipv4}
 use Rattle.model.specs.Checks.{Checked, check-start, check-fails, check-next, check-end}

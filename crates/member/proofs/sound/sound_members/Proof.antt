@@ -1,17 +1,17 @@
 -- `member::sound::sound_members` meets its contract: each way out by the tests that led there.
 -- Assumes nothing.
 use mathlib.Core.Path.{_≡_, ap, sym, _∙_}
-use mathlib.Core.Bool.{true, false, _&&_}
+use mathlib.Core.Bool.{true, _&&_}
 use mathlib.Core.List.{List, map}
 use Prim.Native.Nat.{ℕ}
-use lib.ListN.{take, drop}
+use lib.ListN.{take}
 use lib.Dec.{leb}
 use borrow.Author.Tests.{le-leb, lt-leb, not-true, not-false}
 use Rattle.model.specs.IPv4.{ipv4}
 use Rattle.model.specs.Rows.{every}
-use Rattle.model.specs.Sound.{positioned, isNoMember, distinct, permutes}
-use Rattle.member.specs.Views.{toMember, addrOf, blankAddress}
-use Rattle.member.specs.Soundness.{sound-parts, stops-1, stops-2, stops-3, stops-4, stops-5, last}
+use Rattle.model.specs.Sound.{positioned, distinct, permutes}
+use Rattle.member.specs.Views.{addrOf}
+use Rattle.member.specs.Soundness.{sound-parts, stops-1, stops-2, stops-3, stops-4, stops-5, sound-last}
 use borrow.Author.Needs.{needs}
 use Rattle.member.proofs.sound.sound_members.Statement.{statement}
 use Rattle.member.proofs.sound.sound_members.Tie as tie
@@ -78,11 +78,10 @@ returns-6 c =
     let r = t .before .before in
     let p = r .before .before .before .before in
     let m = p .before .before .before .args .m in
-    c .matches .ensures
-    ∙ ap (λ (x : List ℕ). distinct (ipv4 .same) (take (m .len) x) && permutes (ipv4 .same) (take (m .len) (m .order)) (take (m .len) x)) (r .before .addresses .ensures)
-    ∙ last _ _ _ _ _ _ (few (p .before .before)) (placed p) (ranged r ∙ not-false _ (t .before .if3 .left))
+    sound-last m (c .matches .result) (few (p .before .before)) (placed p) (ranged r ∙ not-false _ (t .before .if3 .left))
     (sym (t .table-ends .ensures) ∙ not-false _ (o .before .if4 .left)) (sym (o .order-ends .ensures) ∙ not-false _ (e .if5 .left))
-    ∙ sym (sound-parts (m .table) (m .order) (m .len) (m .position))
+    (c .matches .ensures
+    ∙ ap (λ (x : List ℕ). distinct (ipv4 .same) (take (m .len) x) && permutes (ipv4 .same) (take (m .len) (m .order)) (take (m .len) x)) (r .before .addresses .ensures))
 
 pub sound-members-spec : {M : Type 1} → statement M
 sound-members-spec =

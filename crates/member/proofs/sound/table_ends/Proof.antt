@@ -1,10 +1,10 @@
 -- `member::sound::table_ends` meets its contract: each place from n to i has passed.
 -- Assumes nothing.
-use mathlib.Core.Path.{_≡_, refl, ap, sym, _∙_}
-use mathlib.Core.List.{List, map}
-use Prim.Native.Nat.{ℕ, _+_, _-_, _≤_, _<_}
+use mathlib.Core.Path.{_≡_, ap, sym, _∙_}
+use mathlib.Core.List.{map}
+use Prim.Native.Nat.{_-_, _≤_}
 use native.Mathlib.Omega.{arith}
-use lib.ListN.{length, getD, length-map, List·getD-map}
+use lib.ListN.{length, length-map, List·getD-map}
 use Rattle.model.specs.IPv4.{ipv4}
 use Rattle.model.specs.Words.{noMember}
 use Rattle.model.specs.Sound.{isNoMember}

@@ -2,7 +2,6 @@
 -- Assumes nothing.
 use borrow.Author.Tests.{eq-eqb, ne-eqb}
 use Rattle.model.specs.Sound.{positioned}
-use borrow.Author.Needs.{needs}
 use Rattle.member.proofs.sound.well_placed.Statement.{statement}
 use Rattle.member.proofs.sound.well_placed.Tie as tie
 
