@@ -4,3 +4,6 @@ pub mod Nexts
 pub mod Entering
 pub mod Drawn
 pub mod Hearing
+pub mod Answers
+pub mod Outcomes
+pub mod Tested

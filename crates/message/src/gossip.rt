@@ -35,7 +35,7 @@ impl Heard {
 }
 
 // No events yet.
-fn no_events() -> [Gossip; Heard::EVENTS]
+pub fn no_events() -> [Gossip; Heard::EVENTS]
     ensures { λ r. ⌜ r ≡ replicate 65 noGossip ⌝ }
 {
     let nothing = Gossip {

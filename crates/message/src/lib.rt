@@ -1,3 +1,326 @@
 // The handler: what a message does to a node, by value.
 pub mod gossip;
 pub mod rules;
+pub mod tests;
+
+use address::Address;
+use gossip::Heard;
+use model::Refusal;
+use model::Reply;
+use model::State;
+use node::Answer;
+use node::Letter;
+use node::Node;
+use order::Drew;
+use types::Action;
+use types::Event;
+use types::Gossip;
+use types::Optional;
+ghost use mathlib.Core.Path.{_≡_};
+ghost use mathlib.Core.Bool.{true};
+ghost use mathlib.Core.List.{map};
+ghost use Prim.Native.Nat.{ℕ, _≤_};
+ghost use lib.ListN.{length, take};
+ghost use Rattle.model.specs.IPv4.{ipv4};
+ghost use Rattle.model.specs.Rows.{every, padTo};
+ghost use Rattle.model.specs.Words as W;
+ghost use Rattle.model.specs.Sound.{validGossip};
+ghost use Rattle.model.specs.Calls as calls;
+ghost use Rattle.model.specs.Handler as handler;
+ghost use Rattle.types.specs.Views.{toGossip, toOptional, toAction, noGossip};
+ghost use Rattle.node.specs.Views.{viewNode, packNode, storedView};
+ghost use Rattle.node.specs.Rows.{Ready};
+ghost use Rattle.message.specs.Answers.{noRows, oneLetter, refusedReceived, answeredOf, settledOf, forwardedOf, receivedOf, lentRows};
+
+// What a message call gives: the answer, the gossip of its message, and the events to report.
+pub struct Received {
+    pub answer: Answer,
+    pub gossip: [Gossip; Received::GOSSIP],
+    pub written: usize,
+    pub events: [Gossip; Heard::EVENTS],
+    pub reported: usize,
+}
+
+impl Received {
+    // "A message has at most 64 gossip records."
+    pub const GOSSIP: usize = 64;
+}
+
+// A row of no gossip.
+fn no_gossip() -> [Gossip; Received::GOSSIP]
+    ensures { λ r. ⌜ r ≡ noRows ⌝ }
+{
+    let nothing = Gossip {
+        event: Event::Nothing,
+    };
+    [nothing; Received::GOSSIP]
+}
+
+// A refusal: the node as it came, nothing sent and nothing reported.
+fn refused(node: Node, refusal: Refusal) -> Received
+    ensures { λ r. ⌜ r ≡ refusedReceived node refusal ⌝ }
+{
+    Received {
+        answer: Answer::refused(refusal, node),
+        gossip: no_gossip(),
+        written: 0,
+        events: gossip::no_events(),
+        reported: 0,
+    }
+}
+
+// An answer that sends one message.
+fn one_letter(used: usize, node: Node, letter: Letter) -> Answer
+    ensures { λ r. ⌜ r ≡ oneLetter used node letter ⌝ }
+{
+    let none = Letter::none();
+    let mut letters = [none; Answer::LETTERS];
+    letters[0] = letter;
+    Answer {
+        reply: Reply::Done(used),
+        node,
+        letters,
+        sent: 1,
+    }
+}
+
+// One message goes out with gossip chosen for it; or what was heard was refused, and nothing is kept.
+fn answer(node: Node, heard: Heard, target: Address, action: Action) -> Received
+    requires { ⌜ ((used : ℕ) → heard .drew ≡ Drew.Used used → Ready (heard .node)) ⌝ }
+    ensures { λ r. ⌜ r ≡ answeredOf node heard target action ⌝ }
+{
+    let drew = heard.drew;
+    match drew {
+        Drew::Used(used) => {
+            let after = heard.node;
+            let spread = after.spread();
+            let gossip = spread.rows;
+            let events = heard.events;
+            let chosen = spread.node;
+            let letter = Letter {
+                target,
+                action,
+                count: spread.count,
+            };
+            Received {
+                answer: one_letter(used, chosen, letter),
+                gossip,
+                written: spread.count,
+                events,
+                reported: heard.reported,
+            }
+        },
+        Drew::Refused(refusal) => refused(node, refusal),
+    }
+}
+
+// A listed sender of an Ack becomes Alive at its own number.
+fn acked(node: Node, from: Address) -> Node
+    requires { ⌜ Ready node ⌝ }
+    ensures { λ r. ⌜ r ≡ packNode (handler.acked ipv4 from (viewNode node)) ⌝ }
+{
+    let members = node.members;
+    if !members.lists(from) {
+        return node;
+    }
+    node.change(from, State::Alive, members.member_number(from))
+}
+
+// The first records of a row, and nothing behind them.
+fn first_of(rows: [Gossip; Received::GOSSIP], given: usize) -> [Gossip; Received::GOSSIP]
+    requires { ⌜ given ≤ 64 ⌝ }
+    ensures { λ r. ⌜ r ≡ padTo 64 noGossip (take given rows) ⌝ }
+{
+    let mut out = no_gossip();
+    let mut i = 0;
+    while i < given {
+        out[i] = rows[i];
+        i += 1;
+    }
+    out
+}
+
+// An Ack without forward_to: its sender is Alive.
+fn settle_ack(node: Node, heard: Heard, from: Address) -> Received
+    requires { ⌜ ((used : ℕ) → heard .drew ≡ Drew.Used used → Ready (heard .node)) ⌝ }
+    ensures { λ r. ⌜ r ≡ settledOf node heard from ⌝ }
+{
+    let drew = heard.drew;
+    match drew {
+        Drew::Used(used) => {
+            let after = heard.node;
+            let events = heard.events;
+            Received {
+                answer: Answer::plain(Reply::Done(used), acked(after, from)),
+                gossip: no_gossip(),
+                written: 0,
+                events,
+                reported: heard.reported,
+            }
+        },
+        Drew::Refused(refusal) => refused(node, refusal),
+    }
+}
+
+// An Ack with forward_to: it goes there with the sender and gossip unchanged and no forward_to.
+fn forward_ack(
+    node: Node,
+    heard: Heard,
+    from: Address,
+    to: Address,
+    rows: [Gossip; Received::GOSSIP],
+    given: usize,
+) -> Received
+    requires { ⌜ given ≤ 64 ⌝ }
+    ensures { λ r. ⌜ r ≡ forwardedOf node heard from to rows given ⌝ }
+{
+    let drew = heard.drew;
+    match drew {
+        Drew::Used(used) => {
+            let after = heard.node;
+            let events = heard.events;
+            let letter = Letter {
+                target: to,
+                action: Action::new_ack(from, Optional::Absent),
+                count: given,
+            };
+            Received {
+                answer: one_letter(used, after, letter),
+                gossip: first_of(rows, given),
+                written: given,
+                events,
+                reported: heard.reported,
+            }
+        },
+        Drew::Refused(refusal) => refused(node, refusal),
+    }
+}
+
+// To requested_by if present, else to the sender.
+fn ack_target(from: Address, requested_by: Optional) -> Address
+    ensures { λ r. ⌜ r ≡ handler.ackTarget ipv4 from (toOptional «requested_by») ⌝ }
+{
+    match requested_by {
+        Optional::Absent => from,
+        Optional::Given(by) => by,
+    }
+}
+
+// Ping: gossip; then an unlisted sender is added; then choose; then an Ack, with requested_by in its forward_to.
+fn handle_ping(
+    node: Node,
+    from: Address,
+    requested_by: Optional,
+    rows: [Gossip; Received::GOSSIP],
+    given: usize,
+    draws: &[u64],
+) -> Received
+    requires { ⌜ Ready node × (given ≤ 64) × (every (validGossip ipv4) (map toGossip (take given rows)) ≡ true) × (ipv4 .valid from ≡ true) ⌝ }
+    ensures { λ r. ⌜ r ≡ receivedOf (calls.kept ipv4 (storedView node) (now (draws .entry)) (handler.handle ipv4 (W.Ping from (toOptional «requested_by»)) (map toGossip (take given rows)) (viewNode node) (now (draws .entry)))) ⌝ }
+{
+    let heard = gossip::hear_ping(node, from, rows, given, draws);
+    let target = ack_target(from, requested_by);
+    answer(node, heard, target, Action::new_ack(node.own, requested_by))
+}
+
+// PingReq: gossip, choose, Ping to the suspect with requested_by the asker; the asker isn't added.
+fn handle_ping_req(
+    node: Node,
+    from: Address,
+    suspect: Address,
+    rows: [Gossip; Received::GOSSIP],
+    given: usize,
+    draws: &[u64],
+) -> Received
+    requires { ⌜ Ready node × (given ≤ 64) × (every (validGossip ipv4) (map toGossip (take given rows)) ≡ true) ⌝ }
+    ensures { λ r. ⌜ r ≡ receivedOf (calls.kept ipv4 (storedView node) (now (draws .entry)) (handler.handle ipv4 (W.PingReq from suspect) (map toGossip (take given rows)) (viewNode node) (now (draws .entry)))) ⌝ }
+{
+    let heard = gossip::hear(node, rows, given, draws);
+    answer(
+        node,
+        heard,
+        suspect,
+        Action::new_ping(node.own, Optional::Given(from)),
+    )
+}
+
+// Ack: gossip; without forward_to, a listed sender becomes Alive; with it, the Ack goes on.
+fn handle_ack(
+    node: Node,
+    from: Address,
+    forward_to: Optional,
+    rows: [Gossip; Received::GOSSIP],
+    given: usize,
+    draws: &[u64],
+) -> Received
+    requires { ⌜ Ready node × (given ≤ 64) × (every (validGossip ipv4) (map toGossip (take given rows)) ≡ true) × (length rows ≡ 64) ⌝ }
+    ensures { λ r. ⌜ r ≡ receivedOf (calls.kept ipv4 (storedView node) (now (draws .entry)) (handler.handle ipv4 (W.Ack from (toOptional «forward_to»)) (map toGossip (take given rows)) (viewNode node) (now (draws .entry)))) ⌝ }
+{
+    let heard = gossip::hear(node, rows, given, draws);
+    match forward_to {
+        Optional::Absent => settle_ack(node, heard, from),
+        Optional::Given(to) => forward_ack(node, heard, from, to, rows, given),
+    }
+}
+
+// By the kind of the message.
+fn dispatch_action(
+    node: Node,
+    action: Action,
+    rows: [Gossip; Received::GOSSIP],
+    given: usize,
+    draws: &[u64],
+) -> Received
+    requires { ⌜ Ready node × (given ≤ 64) × (every (validGossip ipv4) (map toGossip (take given rows)) ≡ true) × (calls.validAction ipv4 (toAction action) ≡ true) × (length rows ≡ 64) ⌝ }
+    ensures { λ r. ⌜ r ≡ receivedOf (calls.kept ipv4 (storedView node) (now (draws .entry)) (handler.handle ipv4 (toAction action) (map toGossip (take given rows)) (viewNode node) (now (draws .entry)))) ⌝ }
+{
+    match action {
+        Action::Ping { from, requested_by } => {
+            handle_ping(node, from, requested_by, rows, given, draws)
+        },
+        Action::PingReq { from, suspect } => {
+            handle_ping_req(node, from, suspect, rows, given, draws)
+        },
+        Action::Ack { from, forward_to } => handle_ack(node, from, forward_to, rows, given, draws),
+    }
+}
+
+// A row has 64 places, which the prover finds where it stands by itself.
+fn has_places(rows: [Gossip; Received::GOSSIP])
+    ensures { λ _. ⌜ length rows ≡ 64 ⌝ }
+{}
+
+// The message: 2, 3, 4, 5, then the rules. Of the records that the host lends the first 64 stand in `rows`, and `given` is how many there are.
+pub fn receive(
+    node: Node,
+    action: Action,
+    rows: [Gossip; Received::GOSSIP],
+    given: usize,
+    draws: &[u64],
+    gossip_room: usize,
+    event_room: usize,
+) -> Received
+    ensures { λ r. ⌜ r ≡ receivedOf (calls.message ipv4 (storedView node) (toAction action) (lentRows rows given) (now (draws .entry)) (record { gossip = «gossip_room»; events = «event_room» })) ⌝ }
+{
+    node::tests::has_rows(node);
+    has_places(rows);
+    if !node::tests::sound(node) {
+        return refused(node, Refusal::Unsound);
+    }
+    if gossip_room < Received::GOSSIP {
+        return refused(node, Refusal::ShortRow);
+    }
+    if event_room < Heard::EVENTS {
+        return refused(node, Refusal::ShortRow);
+    }
+    if Received::GOSSIP < given {
+        return refused(node, Refusal::ManyRecords);
+    }
+    if !tests::valid_action(action) {
+        return refused(node, Refusal::AddressRange);
+    }
+    if !tests::valid_rows(rows, given) {
+        return refused(node, Refusal::AddressRange);
+    }
+    dispatch_action(node, action, rows, given, draws)
+}

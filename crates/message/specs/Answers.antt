@@ -1,0 +1,98 @@
+-- What a message call gives, in rows.
+-- Assumes nothing.
+use mathlib.Core.Path.{_≡_}
+use mathlib.Core.List.{List, [], _∷_, _++_, map}
+use mathlib.Core.Option.{Option, none, some}
+use Prim.Native.Nat.{ℕ, _-_}
+use lib.ListN.{length, take, replicate, set}
+use Rattle.model.specs.declared.Refusal.{Refusal}
+use Rattle.model.specs.declared.Reply.the-variants as reply
+use Rattle.model.specs.Rows.{padTo}
+use Rattle.model.specs.IPv4.{ipv4}
+use Rattle.model.specs.Words as W
+use Rattle.model.specs.Node as M
+use Rattle.model.specs.Handler as handler
+use Rattle.model.specs.Calls as calls
+use Rattle.types.specs.declared.Gossip.{Gossip}
+use Rattle.types.specs.declared.Action.{Action}
+use Rattle.types.specs.declared.Action.the-variants as action
+use Rattle.types.specs.declared.Optional.the-variants.{Absent}
+use Rattle.types.specs.Views.{toGossip, fromGossip, noGossip}
+use Rattle.order.specs.declared.Drew.{Drew}
+use Rattle.order.specs.declared.Drew.the-variants.{Used, Refused}
+use Rattle.node.specs.declared.Node.{Node}
+use Rattle.node.specs.declared.Letter.{Letter}
+use Rattle.node.specs.declared.Answer.{Answer}
+use Rattle.node.specs.Views.{viewNode, packNode, noLetter, plainAnswer, answerOf, spreadOf}
+use Rattle.message.specs.declared.gossip.Heard.{Heard}
+use Rattle.message.specs.declared.Received.{Received}
+
+abbrev pub noRows : List Gossip
+noRows = replicate 64 noGossip
+
+abbrev pub oneLetter : ℕ → Node → Letter → Answer
+oneLetter used n l = record { reply = reply.Done used; node = n; letters = set (replicate 4 noLetter) 0 l; sent = 1 }
+
+abbrev pub refusedReceived : Node → Refusal → Received
+refusedReceived n r = record { answer = plainAnswer (reply.Refused r) n; gossip = noRows; written = 0; events = replicate 65 noGossip; reported = 0 }
+
+-- one message goes out with gossip chosen for it
+abbrev pub answeredBy : Drew → Node → Heard → ℕ → Action → Received
+answeredBy (Used used) n h target a =
+    let c = spreadOf (M.spread ipv4 (viewNode (h .node))) in
+    record {
+      answer = oneLetter used (c .node) (record { target = target; action = a; count = c .count });
+      gossip = c .rows;
+      written = c .count;
+      events = h .events;
+      reported = h .reported;
+    }
+answeredBy (Refused r) n h target a = refusedReceived n r
+
+abbrev pub answeredOf : Node → Heard → ℕ → Action → Received
+answeredOf n h target a = answeredBy (h .drew) n h target a
+
+-- an Ack's sender is Alive
+abbrev pub settledBy : Drew → Node → Heard → ℕ → Received
+settledBy (Used used) n h from =
+    record {
+      answer = plainAnswer (reply.Done used) (packNode (handler.acked ipv4 from (viewNode (h .node))));
+      gossip = noRows;
+      written = 0;
+      events = h .events;
+      reported = h .reported;
+    }
+settledBy (Refused r) n h from = refusedReceived n r
+
+abbrev pub settledOf : Node → Heard → ℕ → Received
+settledOf n h from = settledBy (h .drew) n h from
+
+-- an Ack goes on
+abbrev pub forwardedBy : Drew → Node → Heard → ℕ → ℕ → List Gossip → ℕ → Received
+forwardedBy (Used used) n h from to rows given =
+    record {
+      answer = oneLetter used (h .node) (record { target = to; action = action.Ack from Absent; count = given });
+      gossip = padTo 64 noGossip (take given rows);
+      written = given;
+      events = h .events;
+      reported = h .reported;
+    }
+forwardedBy (Refused r) n h from to rows given = refusedReceived n r
+
+abbrev pub forwardedOf : Node → Heard → ℕ → ℕ → List Gossip → ℕ → Received
+forwardedOf n h from to rows given = forwardedBy (h .drew) n h from to rows given
+
+-- the outcome of a message call
+unfoldable pub receivedOf : calls.Outcome ℕ → Received
+receivedOf o =
+    record {
+      answer = answerOf o;
+      gossip = padTo 64 noGossip (map fromGossip (calls.packed (o .messages)));
+      written = length (calls.packed (o .messages));
+      events = padTo 65 noGossip (map fromGossip (o .events));
+      reported = length (o .events);
+    }
+
+-- the records that a host lends: the first of them stand in a row, and of those past 64 only how many there are plays a part
+unfoldable pub lentRows : List Gossip → ℕ → List (W.Gossip ℕ)
+lentRows rows given = map toGossip (take given rows) ++ replicate (given - 64) W.nothing
