@@ -10,7 +10,7 @@ use lib.Dec.{leb}
 use borrow.Author.Tests.{le-leb, lt-leb}
 use Rattle.model.specs.declared.Refusal.the-variants.{TimersFull}
 use Rattle.model.specs.declared.Reply.the-variants.{Done, Refused}
-use Rattle.model.specs.Answers.{Answer, done, refused, when}
+use Rattle.model.specs.Answers.{done, refused, when}
 use Rattle.model.specs.IPv4.{ipv4}
 use Rattle.model.specs.Words as W
 use Rattle.model.specs.Node as M
@@ -20,11 +20,11 @@ use Rattle.model.specs.Packing.{view-length}
 use Rattle.timers.specs.declared.Timers.{Timers}
 use Rattle.timers.specs.Views.{toTimer, fromTimer, noTimer, timersView, packTimers}
 use Rattle.node.specs.declared.Node.{Node}
-use Rattle.node.specs.Views.{viewNode, packNode, storedView, withTimers}
+use Rattle.node.specs.Views.{viewNode, storedView, withTimers}
 use Rattle.node.specs.Rows.{Ready}
 use Rattle.node.specs.Parts.{part-timers}
 use Rattle.detection.specs.declared.Wait.{Wait}
-use Rattle.detection.specs.Views.{toWait, fromWait, freshWait, steppedOf, plainStep}
+use Rattle.detection.specs.Views.{toWait, freshWait, steppedOf, plainStep}
 use Rattle.detection.proofs.Plain.{plain-step, kept-step}
 
 module _ (n : Node) (r : Ready n) (w : Wait) (a number tick : ℕ) where

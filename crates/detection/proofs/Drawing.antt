@@ -1,8 +1,8 @@
 -- What a pick gave, or which draw it missed; and the node whose order it turned.
 -- Assumes nothing.
 use mathlib.Core.Path.{_≡_, refl, ap, sym, _∙_, subst}
-use mathlib.Core.List.{List, [], _∷_}
-use Prim.Native.Nat.{ℕ, _-_, _≤_}
+use mathlib.Core.List.{List}
+use Prim.Native.Nat.{ℕ, _-_}
 use native.Mathlib.Omega.{arith}
 use lib.ListN.{length}
 use Rattle.model.specs.declared.Refusal.{Refusal}
@@ -13,18 +13,18 @@ use Rattle.model.specs.IPv4.{ipv4}
 use Rattle.model.specs.Members as list
 use Rattle.model.specs.Node as M
 use Rattle.model.specs.Whole.{Whole}
-use Rattle.model.specs.Picks.{Drawn, drawn, after-drawn}
+use Rattle.model.specs.Picks.{Drawn, after-drawn}
 use Rattle.model.specs.Good.{Good}
 use Rattle.model.specs.Keeps.{with-members}
 use Rattle.order.specs.declared.Drew.{Drew}
 use Rattle.order.specs.declared.Drew.the-variants as drew
-use Rattle.order.specs.Views.{drewOf, picksOf}
+use Rattle.order.specs.Views.{picksOf}
 use Rattle.member.specs.declared.Members.{Members}
 use Rattle.member.specs.declared.Picked.{Picked}
 use Rattle.member.specs.Views.{packMembers, pickedAs}
 use Rattle.node.specs.declared.Node.{Node}
-use Rattle.node.specs.Views.{viewNode, packNode, withMembers}
-use Rattle.node.specs.Rows.{Ready, ready-pack}
+use Rattle.node.specs.Views.{packNode, withMembers}
+use Rattle.node.specs.Rows.{ready-pack}
 use Rattle.node.specs.Parts.{part-members}
 use Rattle.detection.proofs.Plain.{view-pack}
 

@@ -1,44 +1,41 @@
 -- A ping: one is picked or none, or a draw is missing.
 -- Assumes nothing.
 use mathlib.Core.Path.{_≡_, refl, ap, sym, _∙_}
-use mathlib.Core.Bool.{Bool, true, false}
-use mathlib.Core.List.{List, [], _∷_, _++_, map, append-nil}
-use mathlib.Core.Option.{Option, none, some}
-use Prim.Native.Nat.{ℕ, zero, suc, _+_, _-_, _≤_, _<_, min}
+use mathlib.Core.List.{List, [], _∷_, map}
+use mathlib.Core.Option.{none}
+use Prim.Native.Nat.{ℕ, zero, suc, _-_, _≤_, _<_}
 use native.Mathlib.Omega.{arith}
 use native.Mathlib.Nat.{not-suc-le-zero}
-use lib.ListN.{length, getD, take, replicate, length-map}
-use lib.Seq.{take-at, length-take-le}
+use lib.ListN.{length, getD, take, length-map}
+use lib.Seq.{length-take-le}
 use Rattle.model.specs.declared.State.the-variants as state
 use Rattle.model.specs.declared.Refusal.{Refusal}
 use Rattle.model.specs.declared.Reply.the-variants.{Done, Refused}
 use Rattle.model.specs.Rows.{padTo}
 use Rattle.model.specs.Answers as A
-use Rattle.model.specs.IPv4.{ipv4, ipv4-lawful}
+use Rattle.model.specs.IPv4.{ipv4}
 use Rattle.model.specs.Words as W
 use Rattle.model.specs.Members as list
 use Rattle.model.specs.Node as M
 use Rattle.model.specs.Detector as D
-use Rattle.model.specs.Calls.{StepOutcome, packed, keptStep}
+use Rattle.model.specs.Calls.{StepOutcome, keptStep}
 use Rattle.model.specs.Picks.{Chosen, pick-ends}
 use Rattle.model.specs.Good.{Good, take-pad}
-use Rattle.model.specs.Keeps.{Keeps, spread-keeps}
+use Rattle.model.specs.Keeps.{spread-keeps}
+use Rattle.types.specs.declared.Action.the-variants.{Ping}
+use Rattle.types.specs.declared.Optional.the-variants.{Absent}
 use Rattle.types.specs.declared.Gossip.{Gossip}
-use Rattle.types.specs.Views.{toGossip, fromGossip, noGossip, from-to-gossips, to-from-gossips}
-use Rattle.order.specs.declared.Drew.{Drew}
+use Rattle.types.specs.Views.{toGossip, fromGossip, noGossip, from-to-gossips}
 use Rattle.order.specs.declared.Drew.the-variants as drew
 use Rattle.order.specs.declared.Picks.{Picks}
-use Rattle.order.specs.Views.{drewOf, picksOf, pickedRow}
-use Rattle.member.specs.declared.Members.{Members}
 use Rattle.member.specs.declared.Picked.{Picked}
-use Rattle.member.specs.Views.{viewMembers, packMembers, pickedMembers, pickedAs}
+use Rattle.member.specs.Views.{pickedAs}
 use Rattle.node.specs.declared.Node.{Node}
 use Rattle.node.specs.declared.parts.Spread.{Spread}
-use Rattle.node.specs.Views.{viewNode, packNode, storedView, withMembers, spreadOf, noLetter, fromMessage, answerOf}
+use Rattle.node.specs.Views.{viewNode, packNode, storedView, withMembers, spreadOf, answerOf}
 use Rattle.node.specs.Rows.{Ready, ready-pack, unstored-pack}
-use Rattle.node.specs.Parts.{part-members}
+use Rattle.detection.specs.declared.WaitState.the-variants.{WaitingForPingAck}
 use Rattle.detection.specs.declared.Wait.{Wait}
-use Rattle.detection.specs.declared.Stepped.{Stepped}
 use Rattle.detection.specs.declared.mail.Mail.{Mail}
 use Rattle.detection.specs.Views.{toWait, fromWait, freshWait, steppedOf, plainStep, keptOf, keptRows, mailOf, posted}
 use Rattle.detection.proofs.Plain.{plain-step, kept-step, view-pack}
@@ -78,8 +75,8 @@ first-of (x ∷ l) (suc k) h m = (take k l, refl)
 pub pinged-one : (n : Node) (p : Picks) (rows : List Gossip) (count used tick number : ℕ) (m : Node) (mail : Mail) → 0 < p .count → 0 < length (p .row) → count ≤ length rows
     → number ≡ M.numbered ipv4 (getD (p .row) 0 0) (viewNode n)
     → m ≡ packNode (M.change ipv4 (getD (p .row) 0 0) state.Pending number (viewNode n))
-    → mail ≡ posted (mailOf []) (getD (p .row) 0 0) (Rattle.types.specs.declared.Action.the-variants.Ping (n .own) Rattle.types.specs.declared.Optional.the-variants.Absent) rows count
-    → keptRows used m mail (record { state = Rattle.detection.specs.declared.WaitState.the-variants.WaitingForPingAck (getD (p .row) 0 0) number; since = tick }) (noGossip ∷ []) 0
+    → mail ≡ posted (mailOf []) (getD (p .row) 0 0) (Ping (n .own) Absent) rows count
+    → keptRows used m mail (record { state = WaitingForPingAck (getD (p .row) 0 0) number; since = tick }) (noGossip ∷ []) 0
     ≡ steppedOf (keptOf used (D.pinged ipv4 tick (map toGossip (take count rows)) (viewNode n) (take (p .count) (p .row))))
 unfolding D.pinged viewNode
 pinged-one n p rows count used tick number m mail h k c e f g =

@@ -1,9 +1,9 @@
 -- What changes nothing, and what sends nothing; a packed node read back.
 -- Assumes nothing.
-use mathlib.Core.Path.{_≡_, refl, ap, sym, _∙_}
-use mathlib.Core.List.{List, [], _∷_}
+use mathlib.Core.Path.{_≡_, refl, sym}
+use mathlib.Core.List.{[]}
 use Prim.Native.Nat.{ℕ}
-use lib.ListN.{length, replicate}
+use lib.ListN.{replicate}
 use Rattle.model.specs.declared.Reply.{Reply}
 use Rattle.model.specs.declared.Reply.the-variants.{Done}
 use Rattle.model.specs.IPv4.{ipv4}
@@ -17,7 +17,7 @@ use Rattle.heap.specs.Views as heaps
 use Rattle.member.specs.Packing as packing
 use Rattle.timers.specs.Views.{toTimer, fromTimer, noTimer}
 use Rattle.node.specs.declared.Node.{Node}
-use Rattle.node.specs.Views.{viewNode, packNode, storedView, plainAnswer}
+use Rattle.node.specs.Views.{viewNode, packNode, storedView}
 use Rattle.node.specs.Ends.{unchanged-is, kept-is}
 use Rattle.detection.specs.declared.Wait.{Wait}
 use Rattle.detection.specs.Views.{toWait, fromWait, from-to-wait, steppedOf, endedOf, plainStep, plainEnd, keptOf}

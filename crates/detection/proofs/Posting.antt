@@ -2,7 +2,7 @@
 -- Assumes nothing.
 use mathlib.Core.Path.{_≡_, refl, ap, sym, _∙_}
 use mathlib.Core.List.{List, [], _∷_, _++_, map, append-nil, append-assoc}
-use Prim.Native.Nat.{ℕ, zero, suc, _+_, _-_, _≤_, _<_}
+use Prim.Native.Nat.{ℕ, _+_, _-_, _≤_, _<_}
 use native.Mathlib.Omega.{arith}
 use native.Mathlib.Numerals.{add-one}
 use lib.ListN.{length, getD, set, take, replicate, length-append, length-map}
@@ -10,13 +10,11 @@ use lib.Seq.{take-at, take-suc, length-take-le}
 use Rattle.model.specs.Rows.{padTo}
 use Rattle.model.specs.Pad.{length-padTo}
 use Rattle.model.specs.Padded.{pad-snoc}
-use Rattle.model.specs.Packing.{PackedRow, packed-pack, packed-length, used-length}
+use Rattle.model.specs.Packing.{PackedRow, packed-pack, used-length}
 use Rattle.model.specs.Words as W
 use Rattle.model.specs.Calls.{packed}
-use Rattle.types.specs.declared.Action.{Action}
 use Rattle.types.specs.declared.Gossip.{Gossip}
 use Rattle.types.specs.Views.{fromAction, toGossip, fromGossip, noGossip, to-from-gossips}
-use Rattle.node.specs.declared.Letter.{Letter}
 use Rattle.node.specs.Views.{noLetter, fromMessage}
 use Rattle.detection.specs.declared.mail.Mail.{Mail}
 use Rattle.detection.specs.Views.{mailOf, PackedMail, posted}

@@ -1,10 +1,10 @@
 -- A ping request: the heap is full, a draw is missing, or the group is asked.
 -- Assumes nothing.
-use mathlib.Core.Path.{_≡_, refl, ap, sym, _∙_}
-use mathlib.Core.Bool.{Bool, true, false}
-use mathlib.Core.List.{List, [], _∷_, _++_, map}
-use mathlib.Core.Option.{Option, none, some}
-use Prim.Native.Nat.{ℕ, _-_, _≤_, min}
+use mathlib.Core.Path.{_≡_, ap, sym, _∙_}
+use mathlib.Core.Bool.{true, false}
+use mathlib.Core.List.{List, [], _∷_}
+use mathlib.Core.Option.{some}
+use Prim.Native.Nat.{ℕ, _-_, _≤_}
 use native.Mathlib.Omega.{arith}
 use lib.ListN.{length, take}
 use Rattle.model.specs.declared.State.the-variants as state
@@ -13,7 +13,6 @@ use Rattle.model.specs.declared.Refusal.the-variants.{HeapFull}
 use Rattle.model.specs.declared.Reply.the-variants.{Refused}
 use Rattle.model.specs.Answers as A
 use Rattle.model.specs.IPv4.{ipv4, ipv4-lawful}
-use Rattle.model.specs.Words as W
 use Rattle.model.specs.Members as list
 use Rattle.model.specs.Node as M
 use Rattle.model.specs.Detector as D
@@ -30,7 +29,7 @@ use Rattle.order.specs.declared.Drew.the-variants as drew
 use Rattle.order.specs.declared.Exclusion.the-variants.{Peer}
 use Rattle.order.specs.declared.Picks.{Picks}
 use Rattle.member.specs.declared.Picked.{Picked}
-use Rattle.member.specs.Views.{pickedAs, pickedOf, Held}
+use Rattle.member.specs.Views.{pickedAs, pickedOf}
 use Rattle.node.specs.declared.Node.{Node}
 use Rattle.node.specs.declared.parts.Emitted.{Emitted}
 use Rattle.node.specs.Views.{viewNode, packNode, storedView, withMembers, emittedOf}

@@ -20,14 +20,14 @@ use Rattle.model.specs.Detector as D
 use Rattle.model.specs.Sound.{sound}
 use Rattle.model.specs.Calls.{StepOutcome, refuses, short, validState, whenDue, keptStep, detect}
 use Rattle.node.specs.declared.Node.{Node}
-use Rattle.node.specs.Views.{viewNode, packNode, storedView}
+use Rattle.node.specs.Views.{viewNode, storedView}
 use Rattle.node.specs.Rows.{Ready, loaded-view}
 use Rattle.node.specs.Parts.{ready-is}
 use Rattle.node.specs.Ends.{test-fails, test-passes}
 use Rattle.detection.specs.declared.WaitState.{WaitState}
 use Rattle.detection.specs.declared.WaitState.the-variants.{SendingPing}
 use Rattle.detection.specs.declared.Wait.{Wait}
-use Rattle.detection.specs.Views.{toState, toWait, fromState, from-to-state, steppedOf, plainStep}
+use Rattle.detection.specs.Views.{toState, toWait, fromState, from-to-state, steppedOf, plainStep, keptOf}
 use Rattle.detection.proofs.Plain.{plain-step, kept-step}
 
 -- "a detector step 256 and 1"
@@ -111,7 +111,7 @@ unfolding D.waited
 waited-is n r w a next tick draws =
     let used : _≡_ {A = ℕ} 0 (length draws - length draws) = omega arith in
     kept-step 0 (viewNode n) n (D.enters (pick (D.heard ipv4 a (viewNode n)) W.SendingPing (toState next)) tick) _ (sym (ready-is n r)) (λ i. record { state = back (D.heard ipv4 a (viewNode n)) i; since = tick })
-    ∙ ap (λ (k : ℕ). steppedOf (Rattle.detection.specs.Views.keptOf k (D.moves ipv4 (pick (D.heard ipv4 a (viewNode n)) W.SendingPing (toState next)) tick (viewNode n)))) used
+    ∙ ap (λ (k : ℕ). steppedOf (keptOf k (D.moves ipv4 (pick (D.heard ipv4 a (viewNode n)) W.SendingPing (toState next)) tick (viewNode n)))) used
   where
     back : (u : Bool) → pick u SendingPing next ≡ fromState (pick u W.SendingPing (toState next))
     back true = refl

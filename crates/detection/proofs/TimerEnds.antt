@@ -2,11 +2,11 @@
 -- Assumes nothing.
 use mathlib.Core.Path.{_≡_, refl, ap, sym, _∙_}
 use mathlib.Core.Bool.{Bool, true, false, not, _||_}
-use mathlib.Core.List.{List, [], _∷_, map}
+use mathlib.Core.List.{List, [], _∷_}
 use mathlib.Core.Option.{Option, none, some}
 use Prim.Native.Nat.{ℕ, zero, suc, _-_, _≤_, _<_}
 use native.Mathlib.Omega.{arith}
-use lib.ListN.{length, getD, take, replicate, List·getD-map}
+use lib.ListN.{length, getD, take, List·getD-map}
 use lib.Seq.{getD-take}
 use lib.Dec.{ltb}
 use borrow.Author.Tests.{lt-ltb, le-ltb}
@@ -16,30 +16,30 @@ use Rattle.model.specs.declared.Reply.the-variants.{Done, NotDue, Refused}
 use Rattle.model.specs.Rows.{pick, every, removeAt}
 use Rattle.model.specs.Bools.{and-split, and-join}
 use Rattle.model.specs.Bounds.{Room, timer-room}
-use Rattle.model.specs.Answers.{Answer, done, refused}
+use Rattle.model.specs.Answers.{Answer}
 use Rattle.model.specs.Pad.{length-removeAt}
 use Rattle.model.specs.IPv4.{ipv4, ipv4-lawful}
 use Rattle.model.specs.Words as W
 use Rattle.model.specs.Node as M
 use Rattle.model.specs.Detector as D
 use Rattle.model.specs.Sound.{sound}
-use Rattle.model.specs.Calls.{Outcome, unchanged, refuses, short, kept, reports, endsAt, endTimer}
+use Rattle.model.specs.Calls.{Outcome, refuses, short, kept, reports, endsAt, endTimer}
 use Rattle.model.specs.Good.{Good}
-use Rattle.model.specs.Keeps.{Keeps, with-timers, leave-keeps, same-node}
+use Rattle.model.specs.Keeps.{with-timers, leave-keeps}
 use Rattle.model.specs.KeepsCalls.{first-over-in}
 use Rattle.model.specs.Packing.{view-length}
 use Rattle.types.specs.declared.Gossip.{Gossip}
 use Rattle.types.specs.declared.Event.{Event}
 use Rattle.types.specs.declared.Event.the-variants.{Deceased}
-use Rattle.types.specs.Views.{toEvent, toGossip, fromGossip, noGossip, from-to-gossip}
+use Rattle.types.specs.Views.{toEvent, toGossip, from-to-gossip}
 use Rattle.timers.specs.declared.Timer.{Timer}
 use Rattle.timers.specs.declared.Timers.{Timers}
 use Rattle.timers.specs.Views.{toTimer, fromTimer, noTimer, timersView, packTimers, endingOf}
 use Rattle.timers.specs.declared.Ending.the-variants.{Nothing, At}
 use Rattle.node.specs.declared.Node.{Node}
 use Rattle.node.specs.declared.parts.Emitted.{Emitted}
-use Rattle.node.specs.Views.{viewNode, packNode, storedView, emittedOf, plainAnswer, answerOf}
-use Rattle.node.specs.Rows.{Ready, ready-pack, loaded-view, unstored-pack}
+use Rattle.node.specs.Views.{viewNode, packNode, storedView, withTimers, emittedOf, plainAnswer, answerOf}
+use Rattle.node.specs.Rows.{Ready, ready-pack, loaded-view}
 use Rattle.node.specs.Parts.{part-timers}
 use Rattle.node.specs.Ends.{test-fails, test-passes, kept-is}
 use Rattle.detection.specs.declared.Ended.{Ended}
@@ -78,7 +78,7 @@ module _ (n : Node) (r : Ready n) (i : ℕ) (h : i < n .timers .len) where
       with-timers ipv4 (viewNode n) (removeAt (viewNode n .timers) i) (r .good) (omega (arith, length-removeAt (viewNode n .timers) i few, r .good .few))
       (every-removeAt (λ (t : W.Timer ℕ). ipv4 .valid (t .addr)) (viewNode n .timers) i (r .good .timers))
 
-  pub fewer-is : (m : Node) (t : Timers) → t ≡ packTimers (removeAt (timersView (n .timers)) i) → m ≡ Rattle.node.specs.Views.withTimers n t → m ≡ packNode fewer
+  pub fewer-is : (m : Node) (t : Timers) → t ≡ packTimers (removeAt (timersView (n .timers)) i) → m ≡ withTimers n t → m ≡ packNode fewer
   unfolding viewNode
   fewer-is m t e f = f ∙ part-timers n r (removeAt (viewNode n .timers) i) t e
 

@@ -2,7 +2,7 @@
 -- Assumes nothing.
 use mathlib.Core.Path.{_≡_, refl}
 use mathlib.Core.List.{List, [], _∷_, _++_, map}
-use Prim.Native.Nat.{ℕ, _+_, _≤_}
+use Prim.Native.Nat.{ℕ, _+_}
 use lib.ListN.{length, take, set, replicate}
 use Rattle.model.specs.declared.Reply.{Reply}
 use Rattle.model.specs.declared.Reply.the-variants.{Done}
@@ -18,8 +18,6 @@ use Rattle.types.specs.declared.Action.{Action}
 use Rattle.types.specs.declared.Action.the-variants.{PingReq}
 use Rattle.types.specs.Views.{fromGossip, noGossip}
 use Rattle.node.specs.declared.Node.{Node}
-use Rattle.node.specs.declared.Letter.{Letter}
-use Rattle.node.specs.declared.Answer.{Answer}
 use Rattle.node.specs.Views.{noLetter, fromMessage, plainAnswer, answerOf, viewNode, packNode}
 use Rattle.detection.specs.declared.WaitState.{WaitState}
 use Rattle.detection.specs.declared.WaitState.the-variants.{SendingPing, WaitingForPingAck, SendingPingReq, WaitingForPingReqAck, Declaring}

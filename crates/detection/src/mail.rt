@@ -9,7 +9,7 @@ use types::Gossip;
 ghost use mathlib.Core.Path.{_≡_};
 ghost use mathlib.Core.List.{[], _++_};
 ghost use Prim.Native.Nat.{_+_, _≤_, _<_};
-ghost use lib.ListN.{length, take};
+ghost use lib.ListN.{take};
 ghost use Rattle.model.specs.Rows.{padTo};
 ghost use Rattle.model.specs.Packing.{PackedRow};
 ghost use Rattle.types.specs.Views.{noGossip};

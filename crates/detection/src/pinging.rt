@@ -25,7 +25,7 @@ ghost use Rattle.model.specs.IPv4.{ipv4};
 ghost use Rattle.model.specs.Detector as D;
 ghost use Rattle.model.specs.Calls as calls;
 ghost use Rattle.types.specs.Views.{toGossip};
-ghost use Rattle.node.specs.Views.{storedView, viewNode, packNode};
+ghost use Rattle.node.specs.Views.{storedView, viewNode};
 ghost use Rattle.node.specs.Rows.{Ready};
 ghost use Rattle.detection.specs.Views.{toWait, steppedOf, keptOf, keptRows, PackedMail, askedOne, askedOf, groupAsked};
 

@@ -11,14 +11,14 @@ use timers::Timer;
 use timers::Timers;
 ghost use mathlib.Core.Path.{_≡_};
 ghost use mathlib.Core.List.{[]};
-ghost use Prim.Native.Nat.{_≤_, _<_};
+ghost use Prim.Native.Nat.{_<_};
 ghost use Rattle.model.specs.IPv4.{ipv4};
 ghost use Rattle.model.specs.Rows.{pick};
 ghost use Rattle.model.specs.Detector as D;
 ghost use Rattle.model.specs.Calls as calls;
-ghost use Rattle.node.specs.Views.{storedView, viewNode, packNode};
+ghost use Rattle.node.specs.Views.{storedView, viewNode};
 ghost use Rattle.node.specs.Rows.{Ready};
-ghost use Rattle.detection.specs.Views.{toState, toWait, steppedOf, plainStep};
+ghost use Rattle.detection.specs.Views.{toWait, steppedOf, plainStep};
 
 // Alive or absent: it has answered, or it is gone.
 fn heard(node: Node, target: Address) -> bool

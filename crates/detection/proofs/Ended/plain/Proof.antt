@@ -1,10 +1,8 @@
 -- `detection::Ended::plain` meets its contract.
 -- Assumes nothing.
-use mathlib.Core.Path.{ap}
 use mathlib.Core.List.{[], _∷_}
 use borrow.Author.Needs.{needs}
 use Rattle.types.specs.Views.{noGossip}
-use Rattle.node.specs.declared.Answer.{Answer}
 use Rattle.detection.specs.declared.Ended.{Ended}
 use Rattle.detection.proofs.Ended.plain.Statement.{statement}
 use Rattle.detection.proofs.Ended.plain.Tie as tie

@@ -1,20 +1,12 @@
 -- `detection::ending::end_at` meets its contract: the timer goes, its address leaves, Deceased is emitted.
 -- Assumes nothing.
-use mathlib.Core.Path.{_≡_, refl, ap, sym, _∙_}
+use mathlib.Core.Path.{_≡_, ap, _∙_}
 use mathlib.Core.List.{[], _∷_}
-use Prim.Native.Nat.{ℕ, _≤_}
 use native.Mathlib.Omega.{arith}
-use lib.ListN.{getD}
 use borrow.Author.Needs.{needs}
-use Rattle.model.specs.Words as W
-use Rattle.types.specs.declared.Event.{Event}
-use Rattle.types.specs.Views.{toEvent, toGossip}
-use Rattle.timers.specs.Views.{noTimer}
-use Rattle.node.specs.declared.Node.{Node}
-use Rattle.node.specs.Views.{viewNode, packNode}
-use Rattle.node.specs.Rows.{Ready}
+use Rattle.node.specs.Views.{packNode}
 use Rattle.detection.specs.declared.Ended.{Ended}
-use Rattle.detection.proofs.TimerEnds.{timer-at, saidEnd, fewer, fewer-is, fewer-ready, gone, gone-is, gone-ready, end-full, end-kept}
+use Rattle.detection.proofs.TimerEnds.{fewer, fewer-is, fewer-ready, gone, gone-is, gone-ready, end-full, end-kept}
 use Rattle.detection.proofs.ending.end_at.Statement.{statement}
 use Rattle.detection.proofs.ending.end_at.Tie as tie
 

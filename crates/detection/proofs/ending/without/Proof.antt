@@ -1,6 +1,6 @@
 -- `detection::ending::without` meets its contract: an address that is listed leaves.
 -- Assumes nothing.
-use mathlib.Core.Path.{_≡_, ap, sym, _∙_}
+use mathlib.Core.Path.{ap, sym, _∙_}
 use mathlib.Core.Bool.{Bool}
 use borrow.Author.Needs.{needs}
 use Rattle.model.specs.IPv4.{ipv4}

@@ -1,13 +1,12 @@
 -- `detection::mail::append` meets its contract: the row is filled from where it ends.
 -- Assumes nothing.
-use mathlib.Core.Path.{_≡_, refl, ap, sym, _∙_}
+use mathlib.Core.Path.{_≡_, ap, _∙_}
 use mathlib.Core.List.{_++_}
-use Prim.Native.Nat.{ℕ, _+_, _-_, _≤_, _<_}
+use Prim.Native.Nat.{ℕ, _+_, _-_, _≤_}
 use native.Mathlib.Omega.{arith}
 use lib.ListN.{length, take, getD, set}
 use borrow.Author.Needs.{needs}
 use Rattle.model.specs.Rows.{padTo}
-use Rattle.types.specs.declared.Gossip.{Gossip}
 use Rattle.types.specs.Views.{noGossip}
 use Rattle.detection.proofs.Posting.{append-start, append-next}
 use Rattle.detection.proofs.mail.append.Statement.{statement}

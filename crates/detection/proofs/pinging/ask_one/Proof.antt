@@ -1,7 +1,6 @@
 -- `detection::pinging::ask_one` meets its contract: gossip is chosen, and the letter posted.
 -- Assumes nothing.
-use mathlib.Core.Path.{_≡_, refl, ap, sym, _∙_}
-use Prim.Native.Nat.{ℕ, _+_, _≤_}
+use mathlib.Core.Path.{ap, _∙_}
 use native.Mathlib.Omega.{arith}
 use borrow.Author.Needs.{needs}
 use Rattle.detection.specs.declared.mail.Mail.{Mail}

@@ -1,21 +1,19 @@
 -- `detection::pinging::pinged` meets its contract: nobody was picked, or one is pinged.
 -- Assumes nothing.
-use mathlib.Core.Path.{_≡_, refl, ap, sym, _∙_}
-use mathlib.Core.List.{List, [], _∷_}
+use mathlib.Core.Path.{_≡_, ap, _∙_}
+use mathlib.Core.List.{List, []}
 use Prim.Native.Nat.{ℕ, _+_, _≤_, _<_}
 use native.Mathlib.Omega.{arith}
 use lib.ListN.{length, getD}
 use borrow.Author.Needs.{needs}
-use borrow.Author.Tests.{eqb-true, eqb-false}
 use Rattle.model.specs.declared.Reply.the-variants.{Done}
 use Rattle.types.specs.declared.Action.{Action}
 use Rattle.types.specs.declared.Gossip.{Gossip}
-use Rattle.types.specs.Views.{noGossip}
 use Rattle.node.specs.Views.{viewNode}
 use Rattle.node.specs.Parts.{ready-is}
 use Rattle.detection.specs.declared.mail.Mail.{Mail}
 use Rattle.detection.specs.declared.Stepped.{Stepped}
-use Rattle.detection.specs.Views.{plainStep, keptRows, mailOf, PackedMail, posted}
+use Rattle.detection.specs.Views.{plainStep, mailOf, PackedMail, posted}
 use Rattle.detection.proofs.Posting.{mail-packed}
 use Rattle.detection.proofs.Pings.{pinged-none, pinged-one}
 use Rattle.detection.proofs.pinging.pinged.Statement.{statement}

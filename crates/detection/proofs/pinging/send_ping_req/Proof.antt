@@ -1,7 +1,7 @@
 -- `detection::pinging::send_ping_req` meets its contract: 9, then 8, then the group is asked.
 -- Assumes nothing.
-use mathlib.Core.Path.{_≡_, refl, ap, sym, _∙_}
-use Prim.Native.Nat.{ℕ, _-_, _≤_}
+use mathlib.Core.Path.{ap, _∙_}
+use Prim.Native.Nat.{_-_}
 use native.Mathlib.Omega.{arith}
 use borrow.Author.Needs.{needs}
 use Rattle.detection.specs.declared.Stepped.{Stepped}

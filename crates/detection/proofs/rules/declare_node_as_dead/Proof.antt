@@ -1,10 +1,9 @@
 -- `detection::rules::declare_node_as_dead` meets its contract: 10, or a timer is started.
 -- Assumes nothing.
-use mathlib.Core.Path.{_≡_, ap, sym, _∙_}
+use mathlib.Core.Path.{_∙_}
 use borrow.Author.Needs.{needs}
 use Rattle.model.specs.declared.Reply.the-variants.{Done}
-use Rattle.detection.specs.Views.{freshWait, plainStep}
-use Rattle.node.specs.Views.{withTimers}
+use Rattle.detection.specs.Views.{plainStep}
 use Rattle.detection.proofs.Declared.{declare-full, declare-kept}
 use Rattle.detection.proofs.rules.declare_node_as_dead.Statement.{statement}
 use Rattle.detection.proofs.rules.declare_node_as_dead.Tie as tie

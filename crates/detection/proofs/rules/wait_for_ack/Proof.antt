@@ -1,12 +1,11 @@
 -- `detection::rules::wait_for_ack` meets its contract.
 -- Assumes nothing.
-use mathlib.Core.Path.{_≡_, ap, sym, _∙_}
+use mathlib.Core.Path.{ap, sym, _∙_}
 use mathlib.Core.Bool.{Bool}
 use borrow.Author.Needs.{needs}
 use Rattle.model.specs.declared.Reply.the-variants.{Done}
 use Rattle.model.specs.Rows.{pick}
 use Rattle.detection.specs.declared.WaitState.the-variants.{SendingPing}
-use Rattle.detection.specs.declared.Wait.{Wait}
 use Rattle.detection.specs.Views.{plainStep}
 use Rattle.detection.proofs.rules.wait_for_ack.Statement.{statement}
 use Rattle.detection.proofs.rules.wait_for_ack.Tie as tie

@@ -1,6 +1,6 @@
 -- `detection::mail::Mail::post` meets its contract: one letter more, and its records behind the others.
 -- Assumes nothing.
-use Prim.Native.Nat.{ℕ, _+_, _≤_, _<_}
+use Prim.Native.Nat.{_+_}
 use native.Mathlib.Omega.{arith}
 use lib.ListN.{set}
 use borrow.Author.Needs.{needs}
