@@ -1,0 +1,217 @@
+// The failure detector: the wait record, a step in each of its five states, and the timer call.
+pub mod ending;
+pub mod mail;
+pub mod pinging;
+pub mod rules;
+
+use address::Address;
+use model::Refusal;
+use model::Reply;
+use model::Settings;
+use node::Answer;
+use node::Node;
+use timers::Ending;
+use types::Event;
+use types::Gossip;
+ghost use mathlib.Core.Path.{_≡_};
+ghost use Prim.Native.Nat.{_≤_};
+ghost use mathlib.Core.Bool.{true};
+ghost use Rattle.model.specs.IPv4.{ipv4};
+ghost use Rattle.model.specs.Detector as D;
+ghost use Rattle.model.specs.Calls as calls;
+ghost use Rattle.node.specs.Views.{storedView, viewNode};
+ghost use Rattle.node.specs.Rows.{Ready};
+ghost use Rattle.detection.specs.Views.{toState, toWait, freshWait, steppedOf, endedOf, plainStep, plainEnd};
+
+// What the detector waits for. SendingPing comes first: a fresh wait record is in it.
+pub enum WaitState {
+    SendingPing,
+    WaitingForPingAck { target: Address, number: u64 },
+    SendingPingReq { target: Address, number: u64 },
+    WaitingForPingReqAck { target: Address, number: u64 },
+    Declaring { target: Address, number: u64 },
+}
+
+// The state, and the tick at which it was entered.
+pub struct Wait {
+    pub state: WaitState,
+    pub since: u32,
+}
+
+impl Wait {
+    // A fresh one is SendingPing at any tick.
+    pub fn new(tick: u32) -> Wait
+        ensures { λ r. ⌜ r ≡ freshWait tick ⌝ }
+    {
+        Wait {
+            state: WaitState::SendingPing,
+            since: tick,
+        }
+    }
+}
+
+// What a step gives: its answer, the wait record, the gossip of its messages in sending order, and the event that it reported.
+pub struct Stepped {
+    pub answer: Answer,
+    pub wait: Wait,
+    pub gossip: [Gossip; Stepped::GOSSIP],
+    pub written: usize,
+    pub events: [Gossip; Stepped::EVENTS],
+    pub reported: usize,
+}
+
+impl Stepped {
+    // A step needs rows of so many places.
+    pub const GOSSIP: usize = 256;
+
+    pub const EVENTS: usize = 1;
+
+    // Nothing sent, nothing reported.
+    pub fn plain(reply: Reply, node: Node, wait: Wait) -> Stepped
+        ensures { λ r. ⌜ r ≡ plainStep reply node wait ⌝ }
+    {
+        let nothing = Gossip {
+            event: Event::Nothing,
+        };
+        let gossip = [nothing; Stepped::GOSSIP];
+        let events = [nothing; Stepped::EVENTS];
+        Stepped {
+            answer: Answer::plain(reply, node),
+            wait,
+            gossip,
+            written: 0,
+            events,
+            reported: 0,
+        }
+    }
+}
+
+// What a timer call gives: its answer, and the event that it reported.
+pub struct Ended {
+    pub answer: Answer,
+    pub events: [Gossip; Stepped::EVENTS],
+    pub reported: usize,
+}
+
+impl Ended {
+    // Nothing reported.
+    pub fn plain(reply: Reply, node: Node) -> Ended
+        ensures { λ r. ⌜ r ≡ plainEnd reply node ⌝ }
+    {
+        let nothing = Gossip {
+            event: Event::Nothing,
+        };
+        let events = [nothing; Stepped::EVENTS];
+        Ended {
+            answer: Answer::plain(reply, node),
+            events,
+            reported: 0,
+        }
+    }
+}
+
+// Is the address of a wait record in range? SendingPing holds none.
+fn in_range(state: WaitState) -> bool
+    ensures { λ r. ⌜ r ≡ calls.validState ipv4 (toState state) ⌝ }
+{
+    match state {
+        WaitState::SendingPing => true,
+        WaitState::WaitingForPingAck { target, number } => address::in_range(target),
+        WaitState::SendingPingReq { target, number } => address::in_range(target),
+        WaitState::WaitingForPingReqAck { target, number } => address::in_range(target),
+        WaitState::Declaring { target, number } => address::in_range(target),
+    }
+}
+
+// How long a state waits: SendingPingReq and Declaring go on at once.
+fn wait_of(settings: Settings, state: WaitState) -> u32
+    ensures { λ r. ⌜ r ≡ D.waitOf settings (toState state) ⌝ }
+{
+    match state {
+        WaitState::SendingPing => settings.ping_interval,
+        WaitState::WaitingForPingAck { target, number } => settings.ping_timeout,
+        WaitState::SendingPingReq { target, number } => 0,
+        WaitState::WaitingForPingReqAck { target, number } => settings.ping_req_timeout,
+        WaitState::Declaring { target, number } => 0,
+    }
+}
+
+// A step that is due, by the state.
+fn step_due(node: Node, wait: Wait, tick: u32, draws: &[u64]) -> Stepped
+    requires { ⌜ Ready node × (calls.validState ipv4 (toState (wait .state)) ≡ true) ⌝ }
+    ensures { λ r. ⌜ (r ≡ steppedOf (calls.keptStep ipv4 (storedView node) (toWait wait) (now (draws .entry)) (D.step ipv4 (toState (wait .state)) tick (viewNode node) (now (draws .entry))))) × (r .written ≤ 256) × (r .reported ≤ 1) ⌝ }
+{
+    let state = wait.state;
+    match state {
+        WaitState::SendingPing => pinging::send_ping(node, wait, tick, draws),
+        WaitState::WaitingForPingAck { target, number } => {
+            let next = WaitState::SendingPingReq { target, number };
+            rules::wait_for_ack(node, target, next, tick)
+        }
+        WaitState::SendingPingReq { target, number } => {
+            pinging::send_ping_req(node, wait, target, number, tick, draws)
+        }
+        WaitState::WaitingForPingReqAck { target, number } => {
+            let next = WaitState::Declaring { target, number };
+            rules::wait_for_ack(node, target, next, tick)
+        }
+        WaitState::Declaring { target, number } => {
+            rules::declare_node_as_dead(node, wait, target, number, tick)
+        }
+    }
+}
+
+// The detector step: 2, 3, 5, not due, then the rules of its state.
+pub fn step(
+    node: Node,
+    wait: Wait,
+    tick: u32,
+    draws: &[u64],
+    gossip_room: usize,
+    event_room: usize,
+) -> Stepped
+    ensures { λ r. ⌜ (r ≡ steppedOf (calls.detect ipv4 (storedView node) (toWait wait) tick (now (draws .entry)) (record { gossip = «gossip_room»; events = «event_room» }))) × (r .written ≤ «gossip_room») × (r .written ≤ 256) × (r .reported ≤ «event_room») × (r .reported ≤ 1) ⌝ }
+{
+    node::tests::has_rows(node);
+    if !node::tests::sound(node) {
+        return Stepped::plain(Reply::Refused(Refusal::Unsound), node, wait);
+    }
+    if gossip_room < Stepped::GOSSIP {
+        return Stepped::plain(Reply::Refused(Refusal::ShortRow), node, wait);
+    }
+    if event_room < Stepped::EVENTS {
+        return Stepped::plain(Reply::Refused(Refusal::ShortRow), node, wait);
+    }
+    let state = wait.state;
+    if !in_range(state) {
+        return Stepped::plain(Reply::Refused(Refusal::AddressRange), node, wait);
+    }
+    let settings = node.settings;
+    // Here now less start is a wrapping subtract of u32 ticks.
+    if !timers::is_over(wait_of(settings, state), tick, wait.since) {
+        return Stepped::plain(Reply::NotDue, node, wait);
+    }
+    step_due(node, wait, tick, draws)
+}
+
+// The timer call: 2, 3, not due, then the earliest started that is over ends.
+pub fn end_timer(node: Node, tick: u32, gossip_room: usize, event_room: usize) -> Ended
+    ensures { λ r. ⌜ (r ≡ endedOf (calls.endTimer ipv4 (storedView node) tick (record { gossip = «gossip_room»; events = «event_room» }))) × (r .reported ≤ «event_room») × (r .reported ≤ 1) ⌝ }
+{
+    node::tests::has_rows(node);
+    if !node::tests::sound(node) {
+        return Ended::plain(Reply::Refused(Refusal::Unsound), node);
+    }
+    if event_room < Stepped::EVENTS {
+        return Ended::plain(Reply::Refused(Refusal::ShortRow), node);
+    }
+    let settings = node.settings;
+    let timers = node.timers;
+    let entries = timers.entries;
+    // Here now less start is a wrapping subtract of u32 ticks.
+    let ending = timers::first_over(entries, timers.len, settings.suspect_timeout, tick);
+    match ending {
+        Ending::Nothing => Ended::plain(Reply::NotDue, node),
+        Ending::At(place) => ending::end_at(node, place),
+    }
+}

@@ -1,0 +1,79 @@
+// What a step that is due does, by its state.
+use crate::Stepped;
+use crate::Wait;
+use crate::WaitState;
+use address::Address;
+use model::Refusal;
+use model::Reply;
+use model::State;
+use node::Node;
+use timers::Timer;
+use timers::Timers;
+ghost use mathlib.Core.Path.{_≡_};
+ghost use mathlib.Core.List.{[]};
+ghost use Prim.Native.Nat.{_<_};
+ghost use Rattle.model.specs.IPv4.{ipv4};
+ghost use Rattle.model.specs.Rows.{pick};
+ghost use Rattle.model.specs.Detector as D;
+ghost use Rattle.model.specs.Calls as calls;
+ghost use Rattle.node.specs.Views.{storedView, viewNode};
+ghost use Rattle.node.specs.Rows.{Ready};
+ghost use Rattle.detection.specs.Views.{toWait, steppedOf, plainStep};
+
+// Alive or absent: it has answered, or it is gone.
+fn heard(node: Node, target: Address) -> bool
+    requires { ⌜ Ready node ⌝ }
+    ensures { λ r. ⌜ r ≡ D.heard ipv4 target (viewNode node) ⌝ }
+{
+    let members = node.members;
+    if !members.lists(target) {
+        return true;
+    }
+    let state = members.member_state(target);
+    match state {
+        State::Alive => true,
+        State::Pending => false,
+        State::Suspected => false,
+    }
+}
+
+// The wait for an answer is over: back to SendingPing if it was heard of, else on to the next state.
+pub fn wait_for_ack(node: Node, target: Address, next: WaitState, tick: u32) -> Stepped
+    requires { ⌜ Ready node ⌝ }
+    ensures { λ r. ⌜ r ≡ plainStep (Reply.Done 0) node (record { state = pick (D.heard ipv4 target (viewNode node)) WaitState.SendingPing next; since = tick }) ⌝ }
+{
+    if heard(node, target) {
+        return Stepped::plain(Reply::Done(0), node, Wait::new(tick));
+    }
+    Stepped::plain(
+        Reply::Done(0),
+        node,
+        Wait {
+            state: next,
+            since: tick,
+        },
+    )
+}
+
+// A declaration timer is started, or 16 are running: 10.
+pub fn declare_node_as_dead(
+    node: Node,
+    wait: Wait,
+    target: Address,
+    number: u64,
+    tick: u32,
+) -> Stepped
+    requires { ⌜ Ready node ⌝ }
+    ensures { λ r. ⌜ r ≡ steppedOf (calls.keptStep ipv4 (storedView node) (toWait wait) [] (D.declare ipv4 target number tick (viewNode node) [])) ⌝ }
+{
+    let timers = node.timers;
+    if Timers::CAPACITY <= timers.len {
+        return Stepped::plain(Reply::Refused(Refusal::TimersFull), node, wait);
+    }
+    let after = timers.start(Timer {
+        addr: target,
+        number,
+        since: tick,
+    });
+    Stepped::plain(Reply::Done(0), node.with_timers(after), Wait::new(tick))
+}
