@@ -2,3 +2,5 @@ pub mod Views
 pub mod Ruling
 pub mod Nexts
 pub mod Entering
+pub mod Drawn
+pub mod Hearing
