@@ -1,3 +1,4 @@
 pub mod Decided
 pub mod Settling
 pub mod Padding
+pub mod Testing

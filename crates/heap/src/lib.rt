@@ -1,4 +1,6 @@
 // A heap of gossip: fewer sends is nearer the top.
+pub mod sound;
+
 use types::Event;
 use types::Gossip;
 ghost use mathlib.Core.Path.{_≡_};

@@ -47,12 +47,12 @@ module _ {A : Type 0} (address : Address A) where
   module _ (t : Terms) (P : Choice A → Type 0)
       (alive : (c : Choice A) (k : Taken A) → P c → Gave t (c .size) (c .alive) k → P (afterAlive address c (some k)))
       (deceased : (c : Choice A) (k : Taken A) → P c → Gave t (c .size) (c .deceased) k → P (afterDeceased address c (some k))) where
-    after-alive : (c : Choice A) (o : Option (Taken A)) → tryAlive address t c ≡ o → P c → P (afterAlive address c o)
+    pub after-alive : (c : Choice A) (o : Option (Taken A)) → tryAlive address t c ≡ o → P c → P (afterAlive address c o)
     unfolding tryAlive
     after-alive c none e p = p
     after-alive c (some k) e p = alive c k p (try-gave t (c .size) (c .noted) (c .alive) k e)
 
-    after-deceased : (c : Choice A) (o : Option (Taken A)) → tryDeceased address t c ≡ o → P c → P (afterDeceased address c o)
+    pub after-deceased : (c : Choice A) (o : Option (Taken A)) → tryDeceased address t c ≡ o → P c → P (afterDeceased address c o)
     unfolding tryDeceased
     after-deceased c none e p = p
     after-deceased c (some k) e p = deceased c k p (try-gave t (c .size) (c .noted) (c .deceased) k e)
@@ -87,7 +87,7 @@ module _ {A : Type 0} (address : Address A) where
       let q = and-split kind (leb (e .sends) 22) (p .0) in
       and-join (and-join (q .0) (le-leb (e .sends + 1) 22 (omega (arith, leb-false limit (e .sends + 1) l)))) (p .1)
 
-  taken-good : (k : Kind) (t : Terms) (size : ℕ) (h : List (Entry A)) (x : Taken A) → t .limit ≤ 23 → GoodHeap address k h → Gave t size h x → GoodHeap address k (x .heap)
+  pub taken-good : (k : Kind) (t : Terms) (size : ℕ) (h : List (Entry A)) (x : Taken A) → t .limit ≤ 23 → GoodHeap address k h → Gave t size h x → GoodHeap address k (x .heap)
   unfolding takeTop
   taken-good k t size h x lim g v =
       let e = v .top in
@@ -131,7 +131,7 @@ module _ {A : Type 0} (address : Address A) where
   abbrev pub atLeast : ℕ → Entry A → Bool
   atLeast least e = leb least (e .size)
 
-  taken-least : (least : ℕ) (t : Terms) (size : ℕ) (h : List (Entry A)) (x : Taken A) → every (atLeast least) h ≡ true → Gave t size h x
+  pub taken-least : (least : ℕ) (t : Terms) (size : ℕ) (h : List (Entry A)) (x : Taken A) → every (atLeast least) h ≡ true → Gave t size h x
       → (every (atLeast least) (x .heap) ≡ true) × (least ≤ x .size) × (size + x .size ≤ t .max-size)
   unfolding takeTop
   taken-least least t size h x g v =

@@ -40,3 +40,10 @@ pub mod Keeps
 pub mod KeepsCalls
 pub mod Places
 pub mod Draws
+pub mod Packing
+pub mod Closing
+pub mod Aside
+pub mod Padded
+pub mod Checks
+pub mod SoundList
+pub mod Picks

@@ -1,21 +1,16 @@
 -- An advance on a row, by each way out.
 -- Assumes nothing.
 use mathlib.Core.Logic.{_≢_}
-use mathlib.Core.Path.{_≡_, refl, ap, sym, _∙_}
-use mathlib.Core.Bool.{Bool, true, false}
-use mathlib.Core.List.{List, [], _∷_, _++_}
-use Prim.Native.Nat.{ℕ, zero, suc, _+_, _-_, _≤_, _<_, _%_}
+use mathlib.Core.Path.{_≡_, ap, sym, _∙_}
+use mathlib.Core.List.{List, [], _++_}
+use Prim.Native.Nat.{ℕ, _+_, _-_, _≤_, _%_}
 use native.Mathlib.Omega.{arith}
-use native.Mathlib.Nat.{mod-lt}
 use lib.ListN.{length, take, drop, length-drop, take-append-drop}
 use lib.Seq.{length-take-le}
 use borrow.Author.Tests.{eq-eqb, ne-eqb}
 use Rattle.model.specs.declared.Refusal.{Refusal}
 use Rattle.model.specs.Answers.{Answer, done, refused, andThen, when}
-use Rattle.model.specs.After.{After, halts, gives, after-when, after-then}
-use Rattle.model.specs.Whole.{shuffle-alike}
 use Rattle.model.specs.Members as list
-use Rattle.order.specs.declared.Drew.{Drew}
 use Rattle.order.specs.declared.Drew.the-variants.{Used, Refused}
 use Rattle.order.specs.declared.Order.{Order}
 use Rattle.order.specs.declared.Shuffled.{Shuffled}
@@ -33,21 +28,6 @@ module _ {A : Type 0} (blank : A) (m : list.Members A) (ds : List ℕ) where
       ≡ andThen (list.shuffle blank (m .order) ds) λ o rest. done (record { table = m .table; order = o; position = (m .position + 1) % length (m .order) }) rest
   unfolding list.advance when
   advance-round h = rw (eq-eqb ((m .position + 1) % length (m .order)) 0 h)
-
--- what an advance leaves: as many, the position a place of them, and the table as it was
-pub record Fits {A : Type 0} (m m′ : list.Members A) : Type 0 where
-  pub long : length (m′ .order) ≡ length (m .order)
-  pub place : m′ .position ≤ length (m .order) - 1
-  pub table : m′ .table ≡ m .table
-
-pub advance-fits : {A : Type 0} (blank : A) (m : list.Members A) (ds : List ℕ) → 0 < length (m .order) → After (Fits m) (list.advance blank m ds)
-unfolding list.advance list.shuffle
-advance-fits blank m ds h =
-    let below : (m .position + 1) % length (m .order) < length (m .order) = mod-lt (m .position + 1) h in
-    after-when
-    (λ e. after-then (shuffle-alike (λ x y. true) blank (length (m .order) - 1) (m .order) ds (omega arith))
-    (λ o rest k. gives (record { long = k .long; place = omega arith; table = refl })))
-    (λ e. gives (record { long = refl; place = omega arith; table = refl }))
 
 -- as many as the row says
 many : (o : Order) (n : ℕ) → Ready o n → length (take n (o .row)) ≡ n

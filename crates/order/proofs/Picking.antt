@@ -5,23 +5,20 @@ use mathlib.Core.Path.{_≡_, refl, ap, sym, _∙_, subst}
 use mathlib.Core.Bool.{Bool, true, false}
 use mathlib.Core.List.{List, [], _∷_, _++_}
 use mathlib.Core.Option.{Option, none, some}
-use Prim.Native.Nat.{ℕ, zero, suc, _+_, _-_, _*_, _≤_, _<_, min}
+use Prim.Native.Nat.{ℕ, zero, suc, _+_, _-_, _*_, _≤_, _<_}
 use native.Mathlib.Omega.{arith}
-use native.Mathlib.Nat.{not-suc-le-zero}
-use native.Mathlib.Numerals.{add-one}
-use lib.ListN.{length, getD, set, take, drop, length-append, length-drop, take-append-drop}
-use lib.Seq.{length-take-le, getD-take, take-at, drop-at, take-all, getD-at}
+use lib.ListN.{length, getD, take, drop, length-append, length-drop, take-append-drop}
+use lib.Seq.{length-take-le, getD-take, take-at, drop-at}
 use lib.Dec.{eqb, ltb}
 use borrow.Author.Tests.{eqb-true, eqb-false, ltb-true, ltb-false}
 use Rattle.model.specs.declared.Refusal.{Refusal}
-use Rattle.model.specs.Rows.{pick, padTo}
-use Rattle.model.specs.Pad.{pad-step}
+use Rattle.model.specs.Rows.{pick}
+use Rattle.model.specs.Padded.{pad-snoc}
 use Rattle.model.specs.Answers.{Answer, done, refused, andThen}
-use Rattle.model.specs.After.{After, halts, gives, given}
-use Rattle.model.specs.Draws.{Leaves, rest-is, rest-le, advance-leaves}
+use Rattle.model.specs.After.{After, gives, given}
+use Rattle.model.specs.Draws.{Leaves, rest-is, advance-leaves}
 use Rattle.model.specs.IPv4.{ipv4}
 use Rattle.model.specs.Members as list
-use Rattle.order.specs.declared.Drew.{Drew}
 use Rattle.order.specs.declared.Drew.the-variants.{Used, Refused}
 use Rattle.order.specs.declared.Order.{Order}
 use Rattle.order.specs.declared.Turned.{Turned}
@@ -29,15 +26,8 @@ use Rattle.order.specs.declared.Exclusion.{Exclusion}
 use Rattle.order.specs.declared.Picks.{Picks}
 use Rattle.order.specs.declared.Picked.{Picked}
 use Rattle.order.specs.Views.{Ready, viewOrder, packOrder, turnedAs, turnedOf, excluded, picksOf, notedOf, goesOn, pickedAs, pickedOf}
-use Rattle.order.proofs.Advancing.{Fits, advance-fits}
-
--- one more behind a row that is filled from the front
-pub pad-snoc : {A : Type 0} (n : ℕ) (z v : A) (l : List A) → length l < n → set (padTo n z l) (length l) v ≡ padTo n z (l ++ (v ∷ []))
-pad-snoc n z v l h =
-    let e : length (l ++ (v ∷ [])) ≡ suc (length l) = length-append l (v ∷ []) ∙ add-one (length l) in
-    ap (λ x. set (padTo n z x) (length l) v) (sym (take-at l (v ∷ []) (length l) refl))
-    ∙ pad-step n (length l) z v (l ++ (v ∷ [])) (omega arith) (omega arith) (getD-at l v [] z (length l) refl)
-    ∙ ap (padTo n z) (take-all (suc (length l)) (l ++ (v ∷ [])) (omega arith))
+use Rattle.order.specs.Ends.{drew-refused, drew-used}
+use Rattle.model.specs.Aside.{Fits, advance-fits}
 
 -- whether a pick looks on
 goes-on : (f c k : ℕ) → goesOn f c k ≡ true → (0 < f) × (c < k)
@@ -108,17 +98,6 @@ looks-own : (own : ℕ) (x : Option ℕ) → list.looks (ipv4 .same) (ipv4 .blan
 looks-own own none = refl
 looks-own own (some y) = refl
 
--- what an advance's count of draws says of its answer
-module _ (o : Order) (n k : ℕ) where
-  refused-is : (x : Answer (list.Members ℕ)) (r : Refusal) → turnedAs o n k x .drew ≡ Refused r → x ≡ refused r
-  refused-is (refused r₁) r e = cc
-  refused-is (done m rest) r e = cc
-
-  used-is : (x : Answer (list.Members ℕ)) (u : ℕ) → turnedAs o n k x .drew ≡ Used u
-      → (m : list.Members ℕ) × (rest : List ℕ) × (x ≡ done m rest) × (k - length rest ≡ u)
-  used-is (refused r) u e = let z : _≡_ {A = ℕ} 0 1 = cc in absurd (omega arith)
-  used-is (done m rest) u e = (m, rest, refl, cc)
-
 -- one that is noted is one wish less
 wish : (over : Bool) (got : List ℕ) (x c : ℕ) → length got < c
     → pick over (suc (c - length got - 1)) (c - length got - 1) ≡ c - length (pick over got (got ++ (x ∷ [])))
@@ -130,7 +109,7 @@ noted-is : (over : Bool) (got : List ℕ) (x : ℕ) (picks : Picks) → picks �
 noted-is true got x picks e h = e
 noted-is false got x picks e h =
     (λ i. notedOf (e i) x false)
-    ∙ (λ i. record { row = pad-snoc 4 (ipv4 .blank) x got h i; count = sym (length-append got (x ∷ [])) i })
+    ∙ (λ i. record { row = pad-snoc 4 (ipv4 .blank) got x h i; count = sym (length-append got (x ∷ [])) i })
 
 -- the pick as it stands in the loop
 pub record Left (order : Order) (n own : ℕ) (e : Exclusion) (wanted : ℕ) (draws : List ℕ) (from capped left : ℕ) (ahead : Order) (picks : Picks) (next : ℕ) : Type 0 where
@@ -212,7 +191,7 @@ module _ (order : Order) (n own : ℕ) (e : Exclusion) (wanted : ℕ) (draws : L
   pub used-fits : (ahead : Order) (next : ℕ) (turned : Turned) (used : ℕ) → next ≤ length draws → turned ≡ turnedOf ahead n draws next → turned .drew ≡ Used used
       → next + used ≤ length draws
   used-fits ahead next turned used h t d =
-      let a = used-is ahead n (length draws - next) (list.advance (ipv4 .blank) (viewOrder ahead n) (drop next draws)) used (sym (ap (λ (y : Turned). y .drew) t) ∙ d) in
+      let a = drew-used (length draws - next) (list.advance (ipv4 .blank) (viewOrder ahead n) (drop next draws)) used (sym (ap (λ (y : Turned). y .drew) t) ∙ d) in
       omega (arith, a .3)
 
   looked : (capped left : ℕ) (ahead : Order) (picks : Picks) (next : ℕ) (f : Left order n own e wanted draws from capped left ahead picks next)
@@ -235,7 +214,7 @@ module _ (order : Order) (n own : ℕ) (e : Exclusion) (wanted : ℕ) (draws : L
   unfolding onward
   left-short capped left ahead picks next turned r f g t d =
       let x = list.advance (ipv4 .blank) (viewOrder ahead n) (drop next draws) in
-      let q : x ≡ refused r = refused-is ahead n (length draws - next) x r (sym (ap (λ (y : Turned). y .drew) t) ∙ d) in
+      let q : x ≡ refused r = drew-refused (length draws - next) x r (sym (ap (λ (y : Turned). y .drew) t) ∙ d) in
       ap (pickedAs order n (length draws - from)) (sym (f .same ∙ looked capped left ahead picks next f g ∙ ap (λ (y : Answer (list.Members ℕ)). andThen y (onward capped left ahead next (f .got))) q))
 
   -- one look
@@ -251,7 +230,7 @@ module _ (order : Order) (n own : ℕ) (e : Exclusion) (wanted : ℕ) (draws : L
       let got = f .got in
       let seen : ℕ = getD (ahead .row) (ahead .position) 0 in
       let b = count-is capped left ahead picks next f g in
-      let a = used-is ahead n (length draws - next) x used (sym (ap (λ (y : Turned). y .drew) t) ∙ d) in
+      let a = drew-used (length draws - next) x used (sym (ap (λ (y : Turned). y .drew) t) ∙ d) in
       let m : list.Members ℕ = a .0 in
       let rest : List ℕ = a .1 in
       let ln : length (take n (ahead .row)) ≡ n = length-take-le n (ahead .row) (omega (arith, f .ready .few, f .ready .long)) in

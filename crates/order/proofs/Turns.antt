@@ -1,16 +1,15 @@
 -- One turn of a shuffle, over the model.
 -- Assumes nothing.
-use mathlib.Core.Path.{_≡_, refl, ap, sym, _∙_}
-use mathlib.Core.Bool.{Bool, true, false}
-use mathlib.Core.List.{List, [], _∷_, _++_}
-use Prim.Native.Nat.{ℕ, zero, suc, _+_, _-_, _≤_, _<_, _%_}
+use mathlib.Core.Path.{_≡_, ap, sym, _∙_}
+use mathlib.Core.List.{List, _++_}
+use Prim.Native.Nat.{ℕ, suc, _+_, _-_, _≤_, _<_, _%_}
 use native.Mathlib.Omega.{arith}
 use native.Mathlib.Numerals.{add-one}
-use lib.ListN.{length, getD, set, take, drop, length-set, length-drop, take-append-drop, drop-of-length-le}
+use lib.ListN.{length, getD, take, drop, length-drop, take-append-drop, drop-of-length-le}
 use lib.Seq.{drop-cons, take-set-lt, drop-set-lt, getD-take}
 use Rattle.model.specs.Rows.{swap}
 use Rattle.model.specs.declared.Refusal.the-variants.{DrawsShort}
-use Rattle.model.specs.Answers.{Answer, done, refused}
+use Rattle.model.specs.Answers.{done, refused}
 use Rattle.model.specs.Members.{shuffleFrom}
 use Rattle.order.specs.declared.Shuffled.{Shuffled}
 use Rattle.order.specs.declared.Drew.the-variants.{Used}

@@ -1,8 +1,8 @@
 -- What insert, remove and shuffle do to the order: one place more, one place less, a permutation.
 -- Assumes nothing.
-use mathlib.Core.Path.{_≡_, refl, ap, sym, _∙_}
-use mathlib.Core.List.{List, [], _∷_, _++_}
-use Prim.Native.Nat.{ℕ, zero, suc, _+_, _-_, _≤_, _<_}
+use mathlib.Core.Path.{_≡_, refl, ap, _∙_}
+use mathlib.Core.List.{List, [], _∷_}
+use Prim.Native.Nat.{ℕ, zero, suc, _-_, _≤_, _<_}
 use native.Mathlib.Omega.{arith}
 use native.Mathlib.Nat.{not-suc-le-zero, le-of-suc-le-suc}
 use lib.ListN.{length, getD, take, drop}
@@ -13,7 +13,6 @@ use Rattle.model.specs.IPv4.{ipv4}
 use Rattle.model.specs.Rows.{insertAt, removeAt, occurs}
 use Rattle.model.specs.Members.{shuffle}
 use Rattle.model.specs.Whole.{Alike, shuffle-alike}
-use Rattle.order.specs.declared.Drew.{Drew}
 use Rattle.order.specs.declared.Drew.the-variants.{Used}
 use Rattle.order.specs.Views.{shuffledAs, shuffledOf}
 

@@ -1,11 +1,11 @@
 -- How a row of 64 places carries the rules of the probing order, and the words of its contracts.
 -- Assumes nothing.
 use mathlib.Core.Path.{_≡_}
-use mathlib.Core.Bool.{Bool, true, false, _&&_}
-use mathlib.Core.List.{List, [], _∷_, _++_}
+use mathlib.Core.Bool.{Bool, false}
+use mathlib.Core.List.{List, [], _++_}
 use mathlib.Core.Option.{Option, none, some}
-use Prim.Native.Nat.{ℕ, _+_, _-_, _≤_, _<_}
-use lib.ListN.{length, take, drop, replicate, set}
+use Prim.Native.Nat.{ℕ, _+_, _-_, _≤_}
+use lib.ListN.{length, take, drop, set}
 use lib.Dec.{ltb, eqb}
 use Rattle.model.specs.Answers.{Answer, done, refused}
 use Rattle.model.specs.IPv4.{ipv4}

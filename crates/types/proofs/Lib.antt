@@ -1,2 +1,3 @@
 pub mod Sameness
 pub mod Measuring
+pub mod Ranging

@@ -1,6 +1,7 @@
 -- How the declared types carry the model's words at addresses that are numbers: each of `to` and `from` undoes the other.
 -- Assumes nothing.
 use mathlib.Core.Path.{_≡_, refl}
+use mathlib.Core.List.{List, [], _∷_, map}
 use mathlib.Core.Option.{Option, none, some}
 use Prim.Native.Nat.{ℕ}
 use Rattle.model.specs.Words as W
@@ -77,6 +78,14 @@ to-from-gossip g = λ i. record { event = to-from-event (g .event) i }
 
 pub from-to-gossip : (g : Gossip) → fromGossip (toGossip g) ≡ g
 from-to-gossip g = λ i. record { event = from-to-event (g .event) i }
+
+pub to-from-gossips : (l : List (W.Gossip ℕ)) → map toGossip (map fromGossip l) ≡ l
+to-from-gossips [] = refl
+to-from-gossips (g ∷ l) = λ i. to-from-gossip g i ∷ to-from-gossips l i
+
+pub from-to-gossips : (l : List Gossip) → map fromGossip (map toGossip l) ≡ l
+from-to-gossips [] = refl
+from-to-gossips (g ∷ l) = λ i. from-to-gossip g i ∷ from-to-gossips l i
 
 pub to-from-optional : (o : Option ℕ) → toOptional (fromOptional o) ≡ o
 to-from-optional none = refl

@@ -5,6 +5,7 @@ ghost use Prim.Native.Nat.{_≤_};
 ghost use Rattle.model.specs.IPv4.{ipv4};
 ghost use Rattle.model.specs.Words.{partsOf, sameGossip};
 ghost use Rattle.model.specs.Size.{varintLength, numberSize, sizeOf};
+ghost use Rattle.model.specs.Sound.{validGossip};
 ghost use Rattle.types.specs.Views.{toEvent, toGossip, fromParts};
 
 // Nothing comes first: it is the event of an unused place.
@@ -240,4 +241,19 @@ pub fn size_of(g: Gossip) -> u64
     let from = address::text_len(p.from);
     let subject = address::text_len(p.subject);
     2 + (2 + from) + (2 + subject) + number_size(p.number)
+}
+
+// Are a gossip's addresses in range? One of no event holds none.
+pub fn valid_gossip(g: Gossip) -> bool
+    ensures { λ r. ⌜ r ≡ validGossip ipv4 (toGossip g) ⌝ }
+{
+    let e = g.event;
+    let p = parts_of(e);
+    if p.kind == 0 {
+        return true;
+    }
+    if !address::in_range(p.from) {
+        return false;
+    }
+    address::in_range(p.subject)
 }

@@ -1,8 +1,6 @@
 -- `order::advance` meets its contract: one place on, or around by a shuffle.
 -- Assumes nothing.
-use mathlib.Core.Path.{_≡_, refl, ap, sym, _∙_}
-use Prim.Native.Nat.{ℕ, _+_, _≤_, _<_}
-use native.Mathlib.Omega.{arith}
+use mathlib.Core.Path.{refl}
 use Rattle.order.proofs.Advancing.{turned-on, turned-round, turned-short}
 use borrow.Author.Needs.{needs}
 use Rattle.order.proofs.advance.Statement.{statement}

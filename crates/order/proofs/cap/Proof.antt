@@ -1,7 +1,6 @@
 -- `order::cap` meets its contract: by the exclusion.
 -- Assumes nothing.
-use mathlib.Core.Path.{_≡_, refl, ap, sym, _∙_}
-use Prim.Native.Nat.{ℕ}
+use mathlib.Core.Path.{ap, sym, _∙_}
 use native.Mathlib.Omega.{arith}
 use Rattle.model.specs.IPv4.{ipv4}
 use Rattle.model.specs.Members.{cap}

@@ -1,7 +1,6 @@
 -- `order::goes_on` meets its contract: each way out by the test that led there.
 -- Assumes nothing.
 use borrow.Author.Tests.{eq-eqb, ne-eqb}
-use borrow.Author.Needs.{needs}
 use Rattle.order.proofs.goes_on.Statement.{statement}
 use Rattle.order.proofs.goes_on.Tie as tie
 

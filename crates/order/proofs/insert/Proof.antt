@@ -1,15 +1,15 @@
 -- `order::insert` meets its contract: after i turns the row is the first i of the model's list, and zeros.
 -- Assumes nothing.
-use mathlib.Core.Path.{_≡_, refl, ap, sym, _∙_}
+use mathlib.Core.Path.{_≡_, ap, _∙_}
 use mathlib.Core.Logic.{⊎-elim}
-use Prim.Native.Nat.{ℕ, zero, suc, _+_, _-_, _≤_, _<_}
+use Prim.Native.Nat.{ℕ, suc, _+_, _-_, _≤_, _<_}
 use native.Mathlib.Omega.{arith}
 use native.Mathlib.Numerals.{add-one}
 use mathlib.Core.List.{List}
 use lib.ListN.{length, getD, set, take, replicate, length-take}
 use lib.Seq.{take-all, getD-take, length-take-le}
 use Rattle.model.specs.Rows.{insertAt, padTo}
-use Rattle.model.specs.Pad.{length-insertAt, length-padTo, insertAt-before, insertAt-at, insertAt-after, pad-step}
+use Rattle.model.specs.Pad.{length-insertAt, insertAt-before, insertAt-at, insertAt-after, pad-step}
 use borrow.Author.Needs.{needs}
 use Rattle.order.proofs.insert.Statement.{statement}
 use Rattle.order.proofs.insert.Tie as tie

@@ -1,6 +1,6 @@
 -- `order::noted` meets its contract: what is not passed over stands behind the others.
 -- Assumes nothing.
-use mathlib.Core.Path.{_≡_, ap, sym}
+use mathlib.Core.Path.{ap, sym}
 use Rattle.order.specs.Views.{notedOf}
 use borrow.Author.Needs.{needs}
 use Rattle.order.proofs.noted.Statement.{statement}

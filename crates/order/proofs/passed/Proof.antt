@@ -1,7 +1,7 @@
 -- `order::passed` meets its contract: own first, then the exclusion.
 -- Assumes nothing.
-use mathlib.Core.Path.{_≡_, refl, ap, sym, _∙_}
-use mathlib.Core.Bool.{Bool, true, false}
+use mathlib.Core.Path.{_≡_, sym, _∙_}
+use mathlib.Core.Bool.{true, false}
 use Prim.Native.Nat.{ℕ}
 use Rattle.model.specs.IPv4.{ipv4}
 use Rattle.model.specs.Members.{passed}

@@ -1,12 +1,12 @@
 -- `order::remove` meets its contract: after i turns the row is the first i of the model's list, and zeros.
 -- Assumes nothing.
-use mathlib.Core.Path.{_≡_, refl, ap, sym, _∙_}
+use mathlib.Core.Path.{_≡_, ap, sym, _∙_}
 use mathlib.Core.Logic.{⊎-elim}
 use mathlib.Core.List.{List}
-use Prim.Native.Nat.{ℕ, zero, suc, _+_, _-_, _≤_, _<_}
+use Prim.Native.Nat.{ℕ, suc, _+_, _-_, _≤_}
 use native.Mathlib.Omega.{arith}
 use native.Mathlib.Numerals.{add-one}
-use lib.ListN.{length, getD, set, take, replicate, length-take}
+use lib.ListN.{length, getD, set, take, replicate}
 use lib.Seq.{take-all, getD-take, length-take-le}
 use Rattle.model.specs.Rows.{removeAt, padTo}
 use Rattle.model.specs.Pad.{length-removeAt, removeAt-before, removeAt-after, pad-step}

@@ -1,6 +1,5 @@
 -- `order::Picks::none` meets its contract: four blanks.
 -- Assumes nothing.
-use mathlib.Core.Path.{_≡_}
 use lib.ListN.{replicate}
 use borrow.Author.Needs.{needs}
 use Rattle.order.proofs.Picks.none.Statement.{statement}

@@ -1,0 +1,133 @@
+-- The rounds of a choosing: what is left of them leads to the model's choice.
+-- Assumes nothing.
+use mathlib.Core.Path.{_≡_, refl, sym, _∙_, ap, subst}
+use mathlib.Core.Bool.{Bool, true, false, _&&_, _||_}
+use mathlib.Core.List.{List, []}
+use Prim.Native.Nat.{ℕ, zero, suc, _+_, _-_, _≤_, _<_}
+use native.Mathlib.Omega.{arith}
+use lib.Dec.{eqb, leb}
+use lib.ListN.{length}
+use Rattle.model.specs.Rows.{isEmpty}
+use Rattle.model.specs.IPv4.{ipv4}
+use Rattle.model.specs.Words as W
+use Rattle.model.specs.Choose as M
+use Rattle.model.specs.Choose.{tryAlive, tryDeceased, afterAlive, afterDeceased, over, rounds, begin, choose}
+use Rattle.model.specs.Chosen.{heap-least}
+use Rattle.model.specs.Sound.{AliveKind, DeceasedKind}
+use Rattle.model.specs.Good.{GoodHeap}
+use Rattle.heap.specs.declared.Heap.{Heap}
+use Rattle.heap.specs.Views.{heapView, Packed, view-length}
+use Rattle.disseminate.specs.declared.Terms.{Terms}
+use Rattle.disseminate.specs.declared.Chosen.{Chosen}
+use Rattle.disseminate.specs.declared.Choice.{Choice}
+use Rattle.disseminate.specs.Views.{noted, toTerms, chosenNone, choiceView, packChoice, PackedChosen, Ready}
+use Rattle.disseminate.proofs.Noting.{chosen-length, pack-choice}
+use Rattle.disseminate.proofs.Trying.{held-none, turned, rounds-over, rounds-stop, rounds-more}
+
+module _ (t : Terms) where
+  -- what is left of the rounds leads to the goal
+  pub record Going (goal : M.Choice ℕ) (c : Choice) (left : ℕ) : Type 0 where
+    pub ready : Ready t c
+    pub same : rounds ipv4 left (toTerms t) (choiceView c) ≡ goal
+
+  abbrev pub fresh : Heap → Heap → Chosen → Choice
+  fresh a d n = record { alive = a; deceased = d; chosen = n; «from_alive» = 0; «from_deceased» = 0 }
+
+  pub begins :
+      (a d : Heap) (n : Chosen) →
+      Packed a →
+      Packed d →
+      GoodHeap ipv4 AliveKind (heapView a) →
+      GoodHeap ipv4 DeceasedKind (heapView d) →
+      t .«max_size» ≤ 1400 →
+      t .limit ≤ 23 →
+      n ≡ chosenNone →
+      Going (choose ipv4 (toTerms t) (heapView a) (heapView d)) (fresh a d n) 64
+  unfolding choose noted
+  begins a d n p q g h s l e =
+      subst (λ (x : Chosen). Going (choose ipv4 (toTerms t) (heapView a) (heapView d)) (fresh a d x) 64) (sym e)
+      (record {
+        ready = record {
+          alive = p;
+          deceased = q;
+          chosen = record { few = omega arith; rows = refl; sent = refl };
+          size = s;
+          limit = l;
+          kept = record {
+            heaps = record { alive = g; deceased = h };
+            within = record {
+              alive = heap-least AliveKind (heapView a) g;
+              deceased = heap-least DeceasedKind (heapView d) h;
+              counted = omega arith;
+              fits = omega arith;
+            };
+            living = omega arith;
+            dead = omega arith;
+          };
+        };
+        same = refl;
+      })
+
+  -- the code's test and the model's
+  pub over-is :
+      (c : Choice) (u : Bool) →
+      Ready t c →
+      u ≡ (eqb (c .alive .len + c .deceased .len) 0 || (leb (t .«alive_share») (c .«from_alive») && leb (t .«deceased_share») (c .«from_deceased»))) →
+      u ≡ over ipv4 (toTerms t) (choiceView c)
+  unfolding over
+  over-is c u r e =
+      let k : c .alive .len + c .deceased .len ≡ length (heapView (c .alive)) + length (heapView (c .deceased)) =
+      omega (arith, view-length (c .alive) (r .alive), view-length (c .deceased) (r .deceased)) in
+      e
+      ∙ ap (λ (b : Bool). b || (leb (t .«alive_share») (c .«from_alive») && leb (t .«deceased_share») (c .«from_deceased»)))
+      (ap (λ (n : ℕ). eqb n 0) k ∙ sym (held-none (heapView (c .alive)) (heapView (c .deceased))))
+
+  module _ (goal : M.Choice ℕ) (c : Choice) (left : ℕ) (g : Going goal c left) where
+    reached : choiceView c ≡ goal → c ≡ packChoice goal
+    reached e = pack-choice t c (g .ready) ∙ ap packChoice e
+
+    pub ends-out : left ≤ 0 → c ≡ packChoice goal
+    unfolding rounds
+    ends-out h =
+        let z : left ≡ 0 = omega arith in
+        reached (ap (λ (f : ℕ). rounds ipv4 f (toTerms t) (choiceView c)) (sym z) ∙ g .same)
+
+    module _ (some : 0 < left) where
+      this : rounds ipv4 (suc (left - 1)) (toTerms t) (choiceView c) ≡ goal
+      this =
+          let z : suc (left - 1) ≡ left = omega arith in
+          ap (λ (f : ℕ). rounds ipv4 f (toTerms t) (choiceView c)) z ∙ g .same
+
+      pub ends-over : over ipv4 (toTerms t) (choiceView c) ≡ true → c ≡ packChoice goal
+      ends-over o = reached (sym (rounds-over (toTerms t) (choiceView c) (left - 1) o) ∙ this)
+
+      module _
+          (o : over ipv4 (toTerms t) (choiceView c) ≡ false)
+          (a b : Choice)
+          (ea : choiceView a ≡ afterAlive ipv4 (choiceView c) (tryAlive ipv4 (toTerms t) (choiceView c)))
+          (eb : choiceView b ≡ afterDeceased ipv4 (choiceView a) (tryDeceased ipv4 (toTerms t) (choiceView a)))
+          (ready : Ready t b)
+        where
+          round : choiceView b ≡ turned (toTerms t) (choiceView c)
+          round = eb ∙ ap (λ (m : M.Choice ℕ). afterDeceased ipv4 m (tryDeceased ipv4 (toTerms t) m)) ea
+
+          many : length (turned (toTerms t) (choiceView c) .chosen) ≡ b .chosen .count
+          many = ap (λ (m : M.Choice ℕ). length (m .chosen)) (sym round) ∙ chosen-length (b .chosen) (ready .chosen)
+
+          before : length (choiceView c .chosen) ≡ c .chosen .count
+          before = chosen-length (c .chosen) (g .ready .chosen)
+
+          pub ends-stop : b .chosen .count ≡ c .chosen .count → b ≡ packChoice goal
+          ends-stop e =
+              pack-choice t b ready
+              ∙ ap packChoice (round ∙ rounds-stop (toTerms t) (choiceView c) (left - 1) o (many ∙ e ∙ sym before) ∙ this)
+
+          pub goes-on : (b .chosen .count ≡ c .chosen .count → ⊥) → Going goal b (left - 1)
+          goes-on n =
+              record {
+                ready = ready;
+                same =
+                    ap (rounds ipv4 (left - 1) (toTerms t)) round
+                    ∙ sym (rounds-more (toTerms t) (choiceView c) (left - 1) o (λ e. n (sym many ∙ e ∙ before)))
+                    ∙ this;
+              }

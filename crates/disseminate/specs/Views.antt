@@ -1,0 +1,127 @@
+-- How the code's values carry the model's: terms, what is chosen and noted, and how far a choosing has come.
+-- Assumes nothing.
+use mathlib.Core.Path.{_≡_}
+use mathlib.Core.Bool.{true, false}
+use mathlib.Core.List.{List, [], _∷_, _++_, map}
+use mathlib.Core.Option.{Option, none, some}
+use Prim.Native.Nat.{ℕ, zero, suc, _+_, _≤_, _<_}
+use lib.ListN.{length, getD, take, replicate}
+use Rattle.model.specs.Rows.{padTo}
+use Rattle.model.specs.Answers.{Answer, refused, done}
+use Rattle.model.specs.IPv4.{ipv4}
+use Rattle.model.specs.Words as W
+use Rattle.model.specs.Choose as M
+use Rattle.model.specs.ChooseLaws.{GoodHeaps, Within}
+use Rattle.types.specs.declared.Gossip.{Gossip}
+use Rattle.types.specs.Views.{toGossip, fromGossip, noGossip, to-from-gossip}
+use Rattle.model.specs.Packing.{view-pack}
+use Rattle.heap.specs.declared.Heap.{Heap}
+use Rattle.heap.specs.Views.{heapView, packHeap, Packed}
+use Rattle.disseminate.specs.declared.Pushed.{Pushed}
+use Rattle.disseminate.specs.declared.Found.{Found}
+use Rattle.disseminate.specs.declared.Found.the-variants.{Missing, At}
+use Rattle.disseminate.specs.declared.Terms.{Terms}
+use Rattle.disseminate.specs.declared.Chosen.{Chosen}
+use Rattle.disseminate.specs.declared.Choice.{Choice}
+
+-- a heap after a push that was not refused, or the heap as it came
+abbrev pub heldOr : Heap → Answer (List (W.Entry ℕ)) → Pushed
+heldOr h (refused r) = record { heap = h; full = true }
+heldOr h (done l ds) = record { heap = packHeap l; full = false }
+
+abbrev pub fromFound : Option ℕ → Found
+fromFound none = Missing
+fromFound (some n) = At n
+
+abbrev pub toTerms : Terms → M.Terms
+toTerms t =
+    record {
+      alive-share = t .«alive_share»;
+      deceased-share = t .«deceased_share»;
+      max-size = t .«max_size»;
+      limit = t .limit;
+    }
+
+abbrev pub fromTerms : M.Terms → Terms
+fromTerms t =
+    record {
+      «alive_share» = t .alive-share;
+      «deceased_share» = t .deceased-share;
+      «max_size» = t .max-size;
+      limit = t .limit;
+    }
+
+-- the first k chosen with their send counts, the last one first
+unfoldable pub noted : List Gossip → List ℕ → ℕ → List (W.Gossip ℕ × ℕ)
+noted rows sent zero = []
+noted rows sent (suc k) = (toGossip (getD rows k noGossip), getD sent k 0) ∷ noted rows sent k
+
+-- the send counts of what is noted, the first one first
+unfoldable pub counts : List (W.Gossip ℕ × ℕ) → List ℕ
+counts [] = []
+counts (x ∷ l) = counts l ++ (x .1 ∷ [])
+
+abbrev pub chosenNone : Chosen
+chosenNone = record { rows = replicate 64 noGossip; sent = replicate 64 0; count = 0; size = 0 }
+
+abbrev pub chosenView : Chosen → List (W.Gossip ℕ)
+chosenView n = map toGossip (take (n .count) (n .rows))
+
+abbrev pub choiceView : Choice → M.Choice ℕ
+choiceView c =
+    record {
+      alive = heapView (c .alive);
+      deceased = heapView (c .deceased);
+      chosen = chosenView (c .chosen);
+      noted = noted (c .chosen .rows) (c .chosen .sent) (c .chosen .count);
+      from-alive = c .«from_alive»;
+      from-deceased = c .«from_deceased»;
+      size = c .chosen .size;
+    }
+
+abbrev pub packChoice : M.Choice ℕ → Choice
+packChoice m =
+    record {
+      alive = packHeap (m .alive);
+      deceased = packHeap (m .deceased);
+      chosen = record {
+        rows = padTo 64 noGossip (map fromGossip (m .chosen));
+        sent = padTo 64 0 (counts (m .noted));
+        count = length (m .chosen);
+        size = m .size;
+      };
+      «from_alive» = m .from-alive;
+      «from_deceased» = m .from-deceased;
+    }
+
+-- what was chosen is read back from the rows
+pub chosen-view : (m : M.Choice ℕ) → chosenView (packChoice m .chosen) ≡ m .chosen
+chosen-view m = view-pack toGossip fromGossip to-from-gossip 64 noGossip (m .chosen)
+
+-- the rows hold count gossips and their send counts, and every place behind them is unused
+pub record PackedChosen (n : Chosen) : Type 0 where
+  pub few : n .count ≤ 64
+  pub rows : n .rows ≡ padTo 64 noGossip (take (n .count) (n .rows))
+  pub sent : n .sent ≡ padTo 64 0 (take (n .count) (n .sent))
+
+-- one more is chosen and noted
+pub record NotedOne (n : Chosen) (e : W.Entry ℕ) (r : Chosen) : Type 0 where
+  pub packed : PackedChosen r
+  pub chosen : chosenView r ≡ chosenView n ++ (e .gossip ∷ [])
+  pub noted : noted (r .rows) (r .sent) (r .count) ≡ (e .gossip, e .sends + 1) ∷ noted (n .rows) (n .sent) (n .count)
+  pub size : r .size ≡ n .size + e .size
+
+-- what holds of a choosing at each step: good heaps, and chosen gossip that fits, 24 bytes each at least
+pub record Kept (t : M.Terms) (m : M.Choice ℕ) : Type 0 where
+  pub heaps : GoodHeaps ipv4 m
+  pub within : Within ipv4 24 t m
+  pub living : m .from-alive ≤ length (m .chosen)
+  pub dead : m .from-deceased ≤ length (m .chosen)
+
+pub record Ready (t : Terms) (c : Choice) : Type 0 where
+  pub alive : Packed (c .alive)
+  pub deceased : Packed (c .deceased)
+  pub chosen : PackedChosen (c .chosen)
+  pub size : t .«max_size» ≤ 1400
+  pub limit : t .limit ≤ 23
+  pub kept : Kept (toTerms t) (choiceView c)

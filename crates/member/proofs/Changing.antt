@@ -1,0 +1,242 @@
+-- What each lookup and each change of the rows comes to in the list of the rules.
+-- Assumes nothing.
+use mathlib.Core.Path.{_≡_, refl, ap, sym, _∙_}
+use mathlib.Core.Bool.{true, false}
+use mathlib.Core.List.{List, [], _∷_, _++_, map}
+use Prim.Native.Nat.{ℕ, suc, _+_, _-_, _≤_, _<_, _%_}
+use native.Mathlib.Omega.{arith}
+use lib.ListN.{length, getD, set, take, drop, length-append, length-map, length-set, length-drop, drop-of-length-le, List·getD-eq-default}
+use lib.Seq.{drop-cons, set-out}
+use lib.Dec.{eqb, ltb}
+use borrow.Author.Tests.{le-leb, lt-leb, ltb-true, ltb-false, lt-ltb, le-ltb, eqb-true}
+use Rattle.model.specs.declared.State.the-variants.{Alive}
+use Rattle.model.specs.declared.Refusal.the-variants.{ListFull, DrawsShort}
+use Rattle.model.specs.Rows.{one, pick, insertAt, removeAt, padTo, has, erase, occurs}
+use Rattle.model.specs.Pad.{length-removeAt}
+use Rattle.model.specs.Padded.{pad-snoc, pad-set, removeAt-out}
+use Rattle.model.specs.Counts.{has-le, has-none}
+use Rattle.model.specs.Answers.{done, refused, when}
+use Rattle.model.specs.IPv4.{ipv4}
+use Rattle.model.specs.Words as words
+use Rattle.model.specs.Members as list
+use Rattle.model.specs.Places.{placeOf, has-place, erase-place, strike-place, put-place, held-place, state-place}
+use Rattle.order.specs.declared.Drew.the-variants.{Used, Refused}
+use Rattle.member.specs.declared.Member.{Member}
+use Rattle.member.specs.declared.Members.{Members}
+use Rattle.member.specs.declared.Kept.{Kept}
+use Rattle.member.specs.Views.{toMember, fromMember, nobody, viewMembers, packMembers, Packed, Held, keptAs, addedOf}
+use Rattle.member.specs.Packing.{table-used, order-used, view-many, pack-view}
+use Rattle.member.proofs.Tables.{record-at, removed-row, replaced-row, added-row}
+
+-- the table of the list, and the place of an address in it
+module _ (m : Members) (a : ℕ) where
+  abbrev pub held-table : List (words.Member ℕ)
+  held-table = map toMember (take (m .len) (m .table))
+
+  abbrev pub place-in : ℕ
+  place-in = placeOf (ipv4 .same) a (list.addrs held-table)
+
+module _ (m : Members) (p : Packed m) (a place : ℕ) (e : place ≡ place-in m a) where
+  long : length (held-table m a) ≡ m .len
+  long = length-map (take (m .len) (m .table)) toMember ∙ table-used m p
+
+  addresses : length (list.addrs (held-table m a)) ≡ m .len
+  addresses = length-map (held-table m a) (λ k. k .addr) ∙ long
+
+  -- an address is listed if its place is a used one
+  pub lists-is : ltb place (m .len) ≡ list.listed (ipv4 .same) a (viewMembers m .table)
+  unfolding viewMembers
+  lists-is = (λ i. ltb (e i) (sym addresses i)) ∙ sym (has-place (ipv4 .same) a (list.addrs (held-table m a)))
+
+  -- one that is not listed has number 0 and is Alive
+  pub number-none : place ≡ m .len → 0 ≡ list.held (ipv4 .same) a (viewMembers m .table)
+  unfolding viewMembers
+  number-none h =
+      sym (held-place (ipv4 .same) a (held-table m a) (words.noMember ipv4) refl
+      ∙ ap (λ (k : words.Member ℕ). k .number) (List·getD-eq-default (held-table m a) (words.noMember ipv4) (omega (arith, long))))
+
+  pub state-none : place ≡ m .len → Alive ≡ list.heldState (ipv4 .same) a (viewMembers m .table)
+  unfolding viewMembers
+  state-none h =
+      sym (state-place (ipv4 .same) a (held-table m a) (words.noMember ipv4) refl
+      ∙ ap (λ (k : words.Member ℕ). k .state) (List·getD-eq-default (held-table m a) (words.noMember ipv4) (omega (arith, long))))
+
+  at-place : place < m .len → getD (held-table m a) (place-in m a) (words.noMember ipv4) ≡ toMember (getD (m .table) place nobody)
+  at-place h = ap (λ (i : ℕ). getD (held-table m a) i (words.noMember ipv4)) (sym e) ∙ record-at (m .len) (m .table) place h
+
+  pub number-is : place < m .len → getD (m .table) place nobody .number ≡ list.held (ipv4 .same) a (viewMembers m .table)
+  unfolding viewMembers
+  number-is h = sym (held-place (ipv4 .same) a (held-table m a) (words.noMember ipv4) refl ∙ ap (λ (k : words.Member ℕ). k .number) (at-place h))
+
+  pub state-is : place < m .len → getD (m .table) place nobody .state ≡ list.heldState (ipv4 .same) a (viewMembers m .table)
+  unfolding viewMembers
+  state-is h = sym (state-place (ipv4 .same) a (held-table m a) (words.noMember ipv4) refl ∙ ap (λ (k : words.Member ℕ). k .state) (at-place h))
+
+module _ (m : Members) (p : Packed m) (k : Member) (place : ℕ) (e : place ≡ place-in m (k .addr)) where
+  put-is : list.put (ipv4 .same) (toMember k) (held-table m (k .addr)) ≡ set (held-table m (k .addr)) place (toMember k)
+  put-is = put-place (ipv4 .same) (toMember k) (held-table m (k .addr)) ∙ ap (λ (i : ℕ). set (held-table m (k .addr)) i (toMember k)) (sym e)
+
+  pub updated-none : place ≡ m .len → m ≡ packMembers (list.update (ipv4 .same) (toMember k) (viewMembers m))
+  unfolding list.update viewMembers
+  updated-none h =
+      let t : list.put (ipv4 .same) (toMember k) (held-table m (k .addr)) ≡ held-table m (k .addr) =
+      put-is ∙ set-out (held-table m (k .addr)) place (toMember k) (omega (arith, long m p (k .addr) place e)) in
+      sym (ap (λ (l : List (words.Member ℕ)). packMembers (record { table = l; order = take (m .len) (m .order); position = m .position })) t ∙ pack-view m p)
+
+  pub updated : place < m .len
+      → _≡_ {A = Members} (record { table = set (m .table) place k; order = m .order; len = m .len; position = m .position })
+      (packMembers (list.update (ipv4 .same) (toMember k) (viewMembers m)))
+  unfolding list.update viewMembers packMembers
+  updated h =
+      let u = take (m .len) (m .table) in
+      let t : set (m .table) place k ≡ padTo 64 nobody (map fromMember (list.put (ipv4 .same) (toMember k) (held-table m (k .addr)))) =
+      ap (λ (l : List Member). set l place k) (p .table)
+      ∙ pad-set 64 nobody u place k (omega (arith, table-used m p))
+      ∙ ap (padTo 64 nobody) (sym (ap (map fromMember) put-is ∙ replaced-row u place k)) in
+      let n : m .len ≡ length (list.put (ipv4 .same) (toMember k) (held-table m (k .addr))) =
+      sym (ap length put-is ∙ length-set (held-table m (k .addr)) place (toMember k) ∙ long m p (k .addr) place e) in
+      λ i. record { table = t i; order = p .order i; len = n i; position = m .position }
+
+-- the position of a list that nothing leaves
+position-stays : (q n : ℕ) → q ≤ n - 1 → list.positionAfter (ipv4 .same) q n ≡ q
+position-stays q n h =
+    (elim (eqb q n) as (λ u. eqb q n ≡ u → pick u (n - 1) q ≡ q) [
+      | true ↦ λ z. omega (arith, eqb-true q n z)
+      | false ↦ λ z. refl
+    ]) refl
+
+module _ (m : Members) (g : Held m) (a place : ℕ) (e : place ≡ place-in m a) where
+  -- as often in the order as in the table
+  as-often : occurs (ipv4 .same) a (take (m .len) (m .order)) ≡ occurs (ipv4 .same) a (list.addrs (held-table m a))
+  unfolding viewMembers
+  as-often = g .whole .counts a
+
+  -- the place in the order is a used one if that in the table is, and none otherwise
+  pub order-place : (at : ℕ) → at ≡ placeOf (ipv4 .same) a (take (m .len) (m .order)) → place < m .len → at < m .len
+  order-place at q h =
+      let l = list.addrs (held-table m a) in
+      let o = take (m .len) (m .order) in
+      let listed : has (ipv4 .same) a l ≡ true =
+      has-place (ipv4 .same) a l ∙ lt-ltb (placeOf (ipv4 .same) a l) (length l) (omega (arith, addresses m (g .packed) a place e)) in
+      let in-l : 0 < occurs (ipv4 .same) a l = omega (arith, has-le (ipv4 .same) a l, ap one listed) in
+      let in-o : has (ipv4 .same) a o ≡ true =
+      (elim (has (ipv4 .same) a o) as (λ u. has (ipv4 .same) a o ≡ u → u ≡ true) [
+        | true ↦ λ _. refl
+        | false ↦ λ z. absurd (omega (arith, has-none (ipv4 .same) a o z, as-often))
+      ]) refl in
+      omega (arith, ltb-true (placeOf (ipv4 .same) a o) (length o) (sym (has-place (ipv4 .same) a o) ∙ in-o), order-used m (g .packed))
+
+  pub removed-none : place ≡ m .len → m ≡ packMembers (list.remove (ipv4 .same) a (viewMembers m))
+  unfolding list.remove viewMembers
+  removed-none h =
+      let l = list.addrs (held-table m a) in
+      let o = take (m .len) (m .order) in
+      let t : list.strike (ipv4 .same) a (held-table m a) ≡ held-table m a =
+      strike-place (ipv4 .same) a (held-table m a) ∙ removeAt-out (held-table m a) (place-in m a) (omega (arith, long m (g .packed) a place e)) in
+      let none-l : has (ipv4 .same) a l ≡ false =
+      has-place (ipv4 .same) a l ∙ le-ltb (placeOf (ipv4 .same) a l) (length l) (omega (arith, addresses m (g .packed) a place e)) in
+      let none-o : has (ipv4 .same) a o ≡ false =
+      (elim (has (ipv4 .same) a o) as (λ u. has (ipv4 .same) a o ≡ u → u ≡ false) [
+        | true ↦ λ z. absurd (omega (arith, has-le (ipv4 .same) a o, ap one z, has-none (ipv4 .same) a l none-l, as-often))
+        | false ↦ λ _. refl
+      ]) refl in
+      let r : erase (ipv4 .same) a o ≡ o =
+      erase-place (ipv4 .same) a o ∙ removeAt-out o (placeOf (ipv4 .same) a o)
+      (omega (arith, ltb-false (placeOf (ipv4 .same) a o) (length o) (sym (has-place (ipv4 .same) a o) ∙ none-o))) in
+      let s : list.positionAfter (ipv4 .same) (m .position) (length (erase (ipv4 .same) a o)) ≡ m .position =
+      ap (λ (x : List ℕ). list.positionAfter (ipv4 .same) (m .position) (length x)) r ∙ position-stays (m .position) (length o) (g .whole .place) in
+      sym ((λ i. packMembers (record { table = t i; order = r i; position = s i })) ∙ pack-view m (g .packed))
+
+  pub removed : (at position : ℕ) (table : List Member) (order : List ℕ) → place < m .len
+      → at ≡ placeOf (ipv4 .same) a (take (m .len) (m .order)) → table ≡ padTo 64 nobody (removeAt (take (m .len) (m .table)) place)
+      → order ≡ padTo 64 (ipv4 .blank) (removeAt (take (m .len) (m .order)) at) → position ≡ list.positionAfter (ipv4 .same) (m .position) (m .len - 1)
+      → _≡_ {A = Members} (record { table = table; order = order; len = m .len - 1; position = position })
+      (packMembers (list.remove (ipv4 .same) a (viewMembers m)))
+  unfolding list.remove viewMembers packMembers
+  removed at position table order h q tq oq pq =
+      let o = take (m .len) (m .order) in
+      let below = order-place at q h in
+      let s : list.strike (ipv4 .same) a (held-table m a) ≡ removeAt (held-table m a) place =
+      strike-place (ipv4 .same) a (held-table m a) ∙ ap (removeAt (held-table m a)) (sym e) in
+      let r : erase (ipv4 .same) a o ≡ removeAt o at = erase-place (ipv4 .same) a o ∙ ap (removeAt o) (sym q) in
+      let t : table ≡ padTo 64 nobody (map fromMember (list.strike (ipv4 .same) a (held-table m a))) =
+      tq ∙ ap (padTo 64 nobody) (sym (ap (map fromMember) s ∙ removed-row (take (m .len) (m .table)) place)) in
+      let n : m .len - 1 ≡ length (list.strike (ipv4 .same) a (held-table m a)) =
+      omega (arith, ap length s, length-removeAt (held-table m a) place (omega (arith, long m (g .packed) a place e)), long m (g .packed) a place e) in
+      let k : m .len - 1 ≡ length (erase (ipv4 .same) a o) =
+      omega (arith, ap length r, length-removeAt o at (omega (arith, order-used m (g .packed))), order-used m (g .packed)) in
+      λ i. record {
+        table = t i;
+        order = (oq ∙ ap (padTo 64 (ipv4 .blank)) (sym r)) i;
+        len = n i;
+        position = (pq ∙ ap (list.positionAfter (ipv4 .same) (m .position)) k) i;
+      }
+
+-- each way out of an addition
+module _ (m : list.Members ℕ) (a number : ℕ) where
+  pub add-full : (ds : List ℕ) → 64 ≤ length (m .table) → list.add (ipv4 .same) a number m ds ≡ refused ListFull
+  unfolding list.add when
+  add-full ds h = rw (le-leb 64 (length (m .table)) h)
+
+  pub add-short : (ds : List ℕ) → length (m .table) < 64 → ds ≡ [] → list.add (ipv4 .same) a number m ds ≡ refused DrawsShort
+  unfolding list.add when
+  add-short ds h e = rw (lt-leb 64 (length (m .table)) h, e)
+
+  pub add-done : (ds : List ℕ) (d : ℕ) (rest : List ℕ) → length (m .table) < 64 → ds ≡ d ∷ rest
+      → list.add (ipv4 .same) a number m ds ≡ done (list.added (ipv4 .same) a number d m) rest
+  unfolding list.add when
+  add-done ds d rest h e = rw (lt-leb 64 (length (m .table)) h, e)
+
+module _ (m : Members) (p : Packed m) (a number : ℕ) (draws : List ℕ) (from : ℕ) where
+  pub kept-full : 64 ≤ m .len → _≡_ {A = Kept} (record { members = m; drew = Refused ListFull }) (addedOf m a number draws from)
+  kept-full h = ap (keptAs m (length draws - from)) (sym (add-full (viewMembers m) a number (drop from draws) (omega (arith, view-many m p))))
+
+  pub kept-short : m .len < 64 → length draws ≤ from → _≡_ {A = Kept} (record { members = m; drew = Refused DrawsShort }) (addedOf m a number draws from)
+  kept-short h k =
+      ap (keptAs m (length draws - from))
+      (sym (add-short (viewMembers m) a number (drop from draws) (omega (arith, view-many m p)) (drop-of-length-le draws k)))
+
+  -- the rows with one more
+  added-rows : (order : List ℕ) → m .len < 64
+      → order ≡ padTo 64 (ipv4 .blank) (insertAt (take (m .len) (m .order)) (getD draws from 0 % (m .len + 1)) a)
+      → _≡_ {A = Members}
+      (record { table = set (m .table) (m .len) (record { addr = a; state = Alive; number = number }); order = order; len = m .len + 1; position = m .position })
+      (packMembers (list.added (ipv4 .same) a number (getD draws from 0) (viewMembers m)))
+  unfolding list.added viewMembers packMembers
+  added-rows order h e =
+      let u = take (m .len) (m .table) in
+      let o = take (m .len) (m .order) in
+      let v : Member = record { addr = a; state = Alive; number = number } in
+      let t : set (m .table) (m .len) v ≡ padTo 64 nobody (map fromMember (map toMember u ++ (toMember v ∷ []))) =
+      ap (λ (l : List Member). set l (m .len) v) (p .table)
+      ∙ ap (λ (i : ℕ). set (padTo 64 nobody u) i v) (sym (table-used m p))
+      ∙ pad-snoc 64 nobody u v (omega (arith, table-used m p))
+      ∙ ap (padTo 64 nobody) (sym (added-row u v)) in
+      let j : m .len + 1 ≡ suc (length o) = omega (arith, order-used m p) in
+      let n : m .len + 1 ≡ length (map toMember u ++ (toMember v ∷ [])) =
+      omega (arith, length-append (map toMember u) (toMember v ∷ []), length-map u toMember, table-used m p) in
+      λ i. record {
+        table = t i;
+        order = (e ∙ ap (λ (x : ℕ). padTo 64 (ipv4 .blank) (insertAt o (getD draws from 0 % x) a)) j) i;
+        len = n i;
+        position = m .position;
+      }
+
+  pub kept-added : (order : List ℕ) → m .len < 64 → from < length draws
+      → order ≡ padTo 64 (ipv4 .blank) (insertAt (take (m .len) (m .order)) (getD draws from 0 % (m .len + 1)) a)
+      → _≡_ {A = Kept}
+      (record {
+        members = record {
+          table = set (m .table) (m .len) (record { addr = a; state = Alive; number = number });
+          order = order;
+          len = m .len + 1;
+          position = m .position;
+        };
+        drew = Used 1;
+      })
+      (addedOf m a number draws from)
+  kept-added order h k e =
+      let q : 1 ≡ length draws - from - length (drop (suc from) draws) = omega (arith, length-drop (suc from) draws) in
+      (λ i. record { members = added-rows order h e i; drew = Used (q i) })
+      ∙ ap (keptAs m (length draws - from))
+      (sym (add-done (viewMembers m) a number (drop from draws) (getD draws from 0) (drop (suc from) draws) (omega (arith, view-many m p)) (drop-cons draws from 0 k)))

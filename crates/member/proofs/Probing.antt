@@ -1,0 +1,94 @@
+-- An advance and a pick of the order, put back into the rows of the list.
+-- Assumes nothing.
+use mathlib.Core.Path.{_≡_, refl, ap, sym, _∙_}
+use mathlib.Core.List.{List, _++_, map}
+use Prim.Native.Nat.{ℕ, _+_, _-_, _<_}
+use native.Mathlib.Omega.{arith}
+use lib.ListN.{length, take, drop, replicate, length-map}
+use lib.Seq.{drop-at}
+use Rattle.model.specs.Rows.{padTo}
+use Rattle.model.specs.Answers.{Answer, done, refused}
+use Rattle.model.specs.After.{After, halts, gives}
+use Rattle.model.specs.IPv4.{ipv4}
+use Rattle.model.specs.Words as words
+use Rattle.model.specs.Members as list
+use Rattle.model.specs.Aside.{withTable, pickedWith, onAnswer, advance-aside, pick-aside, Fits, advance-fits, pick-fits}
+use Rattle.order.specs.declared.Order.{Order}
+use Rattle.order.specs.declared.Turned.{Turned}
+use Rattle.order.specs.declared.Exclusion.{Exclusion}
+use Rattle.order.specs.declared.Picked as ordered
+use Rattle.order.specs.Views as order
+use Rattle.member.specs.declared.Members.{Members}
+use Rattle.member.specs.declared.Kept.{Kept}
+use Rattle.member.specs.declared.Picked.{Picked}
+use Rattle.member.specs.Views.{toMember, fromMember, nobody, viewMembers, packMembers, Held, keptAs, advancedOf, pickedAs, pickedOf}
+use Rattle.member.specs.Packing.{order-long, table-used, order-used, from-to}
+
+-- the order of a list with its position, and a list with another order
+abbrev pub orderOf : Members → Order
+orderOf m = record { row = m .order; position = m .position }
+
+abbrev pub withOrder : Members → Order → Members
+withOrder m o = record { table = m .table; order = o .row; len = m .len; position = o .position }
+
+pub order-ready : (m : Members) → Held m → order.Ready (orderOf m) (m .len)
+unfolding viewMembers
+order-ready m g =
+    record { few = g .packed .few; long = order-long m (g .packed); place = omega (arith, g .whole .place, order-used m (g .packed)) }
+
+module _ (m : Members) (g : Held m) where
+  table : List (words.Member ℕ)
+  table = map toMember (take (m .len) (m .table))
+
+  -- a list with another order, packed
+  put-back : (l : list.Members ℕ) → length (l .order) ≡ m .len
+      → withOrder m (order.packOrder (orderOf m) (m .len) l) ≡ packMembers (withTable table l)
+  unfolding packMembers table
+  put-back l e =
+      let p = g .packed in
+      let u = take (m .len) (m .table) in
+      let t : m .table ≡ padTo 64 nobody (map fromMember (map toMember u)) = p .table ∙ ap (padTo 64 nobody) (sym (from-to u)) in
+      let b : drop (m .len) (m .order) ≡ replicate (64 - length (take (m .len) (m .order))) (ipv4 .blank) =
+      ap (drop (m .len)) (p .order) ∙ drop-at (take (m .len) (m .order)) _ (m .len) (order-used m p) in
+      let k : 64 - length (take (m .len) (m .order)) ≡ 64 - length (l .order) = omega (arith, order-used m p) in
+      let r : l .order ++ drop (m .len) (m .order) ≡ padTo 64 (ipv4 .blank) (l .order) =
+      ap (λ (x : List ℕ). l .order ++ x) (b ∙ ap (λ (i : ℕ). replicate i (ipv4 .blank)) k) in
+      let n : m .len ≡ length (map toMember u) = sym (length-map u toMember ∙ table-used m p) in
+      λ i. record { table = t i; order = r i; len = n i; position = l .position }
+
+  many : length (order.viewOrder (orderOf m) (m .len) .order) ≡ m .len
+  many = order-used m (g .packed)
+
+  advanced-as : (k : ℕ) (x : Answer (list.Members ℕ)) → After (Fits (order.viewOrder (orderOf m) (m .len))) x
+      → _≡_ {A = Kept} (record { members = withOrder m (order.turnedOrder (orderOf m) (m .len) x); drew = order.drewOf k x }) (keptAs m k (onAnswer (withTable table) x))
+  advanced-as k (refused r) halts = refl
+  advanced-as k (done l rest) (gives f) = λ i. record { members = put-back l (f .long ∙ many) i; drew = order.drewOf k (done l rest) }
+
+  pub advanced-is : (draws : List ℕ) (from : ℕ) (t : Turned) → 0 < m .len → t ≡ order.turnedOf (orderOf m) (m .len) draws from
+      → _≡_ {A = Kept} (record { members = withOrder m (t .order); drew = t .drew }) (advancedOf m draws from)
+  unfolding viewMembers table
+  advanced-is draws from t h e =
+      let o = order.viewOrder (orderOf m) (m .len) in
+      let x = list.advance (ipv4 .blank) o (drop from draws) in
+      (λ i. record { members = withOrder m (e i .order); drew = e i .drew })
+      ∙ advanced-as (length draws - from) x (advance-fits (ipv4 .blank) o (drop from draws) (omega (arith, many)))
+      ∙ ap (keptAs m (length draws - from)) (sym (advance-aside table (ipv4 .blank) o (drop from draws)))
+
+  picked-as : (k : ℕ) (x : Answer (list.Picked ℕ)) → After (λ p. Fits (order.viewOrder (orderOf m) (m .len)) (p .members)) x
+      → _≡_ {A = Picked}
+      (record { members = withOrder m (order.pickedOrder (orderOf m) (m .len) x); picks = order.pickedRow x; drew = order.drewOf k x })
+      (pickedAs m k (onAnswer (pickedWith table) x))
+  picked-as k (refused r) halts = refl
+  picked-as k (done p rest) (gives f) =
+      λ i. record { members = put-back (p .members) (f .long ∙ many) i; picks = order.picksOf (p .picks); drew = order.drewOf k (done p rest) }
+
+  pub picked-is : (own : ℕ) (e : Exclusion) (wanted : ℕ) (draws : List ℕ) (from : ℕ) (t : ordered.Picked)
+      → t ≡ order.pickedOf (orderOf m) (m .len) own e wanted draws from
+      → _≡_ {A = Picked} (record { members = withOrder m (t .order); picks = t .picks; drew = t .drew }) (pickedOf m own e wanted draws from)
+  unfolding viewMembers table
+  picked-is own e wanted draws from t q =
+      let o = order.viewOrder (orderOf m) (m .len) in
+      let x = list.pickFrom (ipv4 .same) (ipv4 .blank) own (order.excluded e) wanted o (drop from draws) in
+      (λ i. record { members = withOrder m (q i .order); picks = q i .picks; drew = q i .drew })
+      ∙ picked-as (length draws - from) x (pick-fits (ipv4 .blank) (ipv4 .same) own (order.excluded e) wanted o (drop from draws) (g .whole .place))
+      ∙ ap (pickedAs m (length draws - from)) (sym (pick-aside table (ipv4 .same) (ipv4 .blank) own (order.excluded e) wanted o (drop from draws)))

@@ -1,0 +1,102 @@
+-- `member::sound::sound_members` meets its contract: each way out by the tests that led there.
+-- Assumes nothing.
+use mathlib.Core.Path.{_≡_, ap, sym, _∙_}
+use mathlib.Core.Bool.{true, false, _&&_}
+use mathlib.Core.List.{List, map}
+use Prim.Native.Nat.{ℕ}
+use lib.ListN.{take, drop}
+use lib.Dec.{leb}
+use borrow.Author.Tests.{le-leb, lt-leb, not-true, not-false}
+use Rattle.model.specs.IPv4.{ipv4}
+use Rattle.model.specs.Rows.{every}
+use Rattle.model.specs.Sound.{positioned, isNoMember, distinct, permutes}
+use Rattle.member.specs.Views.{toMember, addrOf, blankAddress}
+use Rattle.member.specs.Soundness.{sound-parts, stops-1, stops-2, stops-3, stops-4, stops-5, last}
+use borrow.Author.Needs.{needs}
+use Rattle.member.proofs.sound.sound_members.Statement.{statement}
+use Rattle.member.proofs.sound.sound_members.Tie as tie
+
+-- what has passed where each test was left
+few : (c : tie.Else1) → leb (c .before .args .m .len) 64 ≡ true
+few c = le-leb (c .before .args .m .len) 64 (c .if1 .left)
+
+placed : (c : tie.Else2) → positioned (c .before .before .before .args .m .position) (c .before .before .before .args .m .len) ≡ true
+placed c = sym (c .before .well-placed .ensures) ∙ not-false _ (c .if2 .left)
+
+-- the row is that of the addresses
+ranged : (c : tie.After-all-in-range)
+    → every (ipv4 .valid) (take (c .before .before .before .before .before .before .before .args .m .len) (map addrOf (c .before .before .before .before .before .before .before .args .m .table)))
+    ≡ c .all-in-range .result
+ranged c =
+    let m = c .before .before .before .before .before .before .before .args .m in
+    ap (λ (r : List ℕ). every (ipv4 .valid) (take (m .len) r)) (sym (c .before .addresses .ensures)) ∙ sym (c .all-in-range .ensures)
+
+returns : tie.Need-returns
+returns c =
+    let m = c .before .args .m in
+    stops-1 _ _ _ _ _ _ (lt-leb (m .len) 64 (c .if1 .taken)) ∙ sym (sound-parts (m .table) (m .order) (m .len) (m .position))
+
+returns-2 : tie.Need-returns-2
+returns-2 c =
+    let m = c .before .before .before .args .m in
+    stops-2 _ _ _ _ _ _ (few (c .before .before)) (sym (c .before .well-placed .ensures) ∙ not-true _ (c .if2 .taken))
+    ∙ sym (sound-parts (m .table) (m .order) (m .len) (m .position))
+
+returns-3 : tie.Need-returns-3
+returns-3 c =
+    let r = c .before in
+    let p = r .before .before .before .before in
+    let m = p .before .before .before .args .m in
+    stops-3 _ _ _ _ _ _ (few (p .before .before)) (placed p) (ranged r ∙ not-true _ (c .if3 .taken))
+    ∙ sym (sound-parts (m .table) (m .order) (m .len) (m .position))
+
+returns-4 : tie.Need-returns-4
+returns-4 c =
+    let t = c .before in
+    let r = t .before .before in
+    let p = r .before .before .before .before in
+    let m = p .before .before .before .args .m in
+    stops-4 _ _ _ _ _ _ (few (p .before .before)) (placed p) (ranged r ∙ not-false _ (t .before .if3 .left)) (sym (t .table-ends .ensures) ∙ not-true _ (c .if4 .taken))
+    ∙ sym (sound-parts (m .table) (m .order) (m .len) (m .position))
+
+returns-5 : tie.Need-returns-5
+returns-5 c =
+    let o = c .before in
+    let t = o .before .before in
+    let r = t .before .before in
+    let p = r .before .before .before .before in
+    let m = p .before .before .before .args .m in
+    stops-5 _ _ _ _ _ _ (few (p .before .before)) (placed p) (ranged r ∙ not-false _ (t .before .if3 .left))
+    (sym (t .table-ends .ensures) ∙ not-false _ (o .before .if4 .left)) (sym (o .order-ends .ensures) ∙ not-true _ (c .if5 .taken))
+    ∙ sym (sound-parts (m .table) (m .order) (m .len) (m .position))
+
+returns-6 : tie.Need-returns-6
+returns-6 c =
+    let e = c .before in
+    let o = e .before in
+    let t = o .before .before in
+    let r = t .before .before in
+    let p = r .before .before .before .before in
+    let m = p .before .before .before .args .m in
+    c .matches .ensures
+    ∙ ap (λ (x : List ℕ). distinct (ipv4 .same) (take (m .len) x) && permutes (ipv4 .same) (take (m .len) (m .order)) (take (m .len) x)) (r .before .addresses .ensures)
+    ∙ last _ _ _ _ _ _ (few (p .before .before)) (placed p) (ranged r ∙ not-false _ (t .before .if3 .left))
+    (sym (t .table-ends .ensures) ∙ not-false _ (o .before .if4 .left)) (sym (o .order-ends .ensures) ∙ not-false _ (e .if5 .left))
+    ∙ sym (sound-parts (m .table) (m .order) (m .len) (m .position))
+
+pub sound-members-spec : {M : Type 1} → statement M
+sound-members-spec =
+    tie.close
+    (tie.spec
+    returns
+    (λ c κs. search needs)
+    returns-2
+    (λ c κs. search needs)
+    (λ c κs. search needs)
+    returns-3
+    (λ c κs. search needs)
+    returns-4
+    (λ c κs. search needs)
+    returns-5
+    (λ c κs. search needs)
+    returns-6)

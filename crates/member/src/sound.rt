@@ -1,0 +1,147 @@
+// Is a list that was handed in sound? Every clause of the rules, for any value of the type.
+use crate::Member;
+use crate::Members;
+use address::Address;
+use model::State;
+ghost use mathlib.Core.Path.{_≡_};
+ghost use mathlib.Core.Bool.{_&&_};
+ghost use mathlib.Core.List.{map};
+ghost use Prim.Native.Nat.{_≤_};
+ghost use lib.ListN.{take, drop};
+ghost use Rattle.model.specs.IPv4.{ipv4};
+ghost use Rattle.model.specs.Rows.{every};
+ghost use Rattle.model.specs.Sound.{distinct, permutes, positioned, isNoMember, soundMembers};
+ghost use Rattle.member.specs.Views.{toMember, addrOf, blankAddress};
+
+// Position below the length, or 0 if the list is empty.
+fn well_placed(position: usize, n: usize) -> bool
+    ensures { λ r. ⌜ r ≡ positioned position n ⌝ }
+{
+    if n == 0 {
+        return position == 0;
+    }
+    position < n
+}
+
+// The addresses of the table, as a row.
+fn addresses(table: [Member; Members::CAPACITY]) -> [Address; Members::CAPACITY]
+    ensures { λ r. ⌜ r ≡ map addrOf table ⌝ }
+{
+    let mut out = [address::blank(); Members::CAPACITY];
+    let mut i = 0;
+    while i < Members::CAPACITY {
+        let m = table[i];
+        out[i] = m.addr;
+        i += 1;
+    }
+    out
+}
+
+// Are the first n of a row distinct, and those of the order a permutation of them? One pass that marks: each is found in the order, at a place
+// that none before it was found at.
+fn matches(row: [Address; Members::CAPACITY], order: [Address; Members::CAPACITY], n: usize) -> bool
+    requires { ⌜ n ≤ 64 ⌝ }
+    ensures { λ r. ⌜ r ≡ (distinct (ipv4 .same) (take n row) && permutes (ipv4 .same) (take n order) (take n row)) ⌝ }
+{
+    let mut marks = [false; Members::CAPACITY];
+    let mut i = 0;
+    while i < n {
+        let place = order::find_place(order, n, row[i]);
+        if place == n {
+            return false;
+        }
+        if marks[place] {
+            return false;
+        }
+        marks[place] = true;
+        i += 1;
+    }
+    true
+}
+
+// Are the first n of a row in range?
+fn all_in_range(row: [Address; Members::CAPACITY], n: usize) -> bool
+    requires { ⌜ n ≤ 64 ⌝ }
+    ensures { λ r. ⌜ r ≡ every (ipv4 .valid) (take n row) ⌝ }
+{
+    let mut i = 0;
+    while i < n {
+        if !address::in_range(row[i]) {
+            return false;
+        }
+        i += 1;
+    }
+    true
+}
+
+// Is a record that of an unused place?
+fn is_unused(m: Member) -> bool
+    ensures { λ r. ⌜ r ≡ isNoMember ipv4 (toMember m) ⌝ }
+{
+    if !address::same(m.addr, address::blank()) {
+        return false;
+    }
+    let state = m.state;
+    match state {
+        State::Alive => m.number == 0,
+        State::Pending => false,
+        State::Suspected => false,
+    }
+}
+
+// Is every place of the table from n on unused?
+fn table_ends(table: [Member; Members::CAPACITY], n: usize) -> bool
+    requires { ⌜ n ≤ 64 ⌝ }
+    ensures { λ r. ⌜ r ≡ every (isNoMember ipv4) (drop n (map toMember table)) ⌝ }
+{
+    let mut i = n;
+    while i < Members::CAPACITY {
+        if !is_unused(table[i]) {
+            return false;
+        }
+        i += 1;
+    }
+    true
+}
+
+// Is every place of the order from n on unused?
+fn order_ends(order: [Address; Members::CAPACITY], n: usize) -> bool
+    requires { ⌜ n ≤ 64 ⌝ }
+    ensures { λ r. ⌜ r ≡ every blankAddress (drop n order) ⌝ }
+{
+    let blank = address::blank();
+    let mut i = n;
+    while i < Members::CAPACITY {
+        if !address::same(order[i], blank) {
+            return false;
+        }
+        i += 1;
+    }
+    true
+}
+
+// Counts, distinct addresses, the order a permutation of them, the position, addresses in range, and every unused place zero.
+pub fn sound_members(m: Members) -> bool
+    ensures { λ r. ⌜ r ≡ soundMembers ipv4 (map toMember (m .table)) (m .order) (m .len) (m .position) ⌝ }
+{
+    let n = m.len;
+    if Members::CAPACITY < n {
+        return false;
+    }
+    if !well_placed(m.position, n) {
+        return false;
+    }
+    let table = m.table;
+    let order = m.order;
+    let row = addresses(table);
+    if !all_in_range(row, n) {
+        return false;
+    }
+    if !table_ends(table, n) {
+        return false;
+    }
+    if !order_ends(order, n) {
+        return false;
+    }
+    matches(row, order, n)
+}

@@ -1,0 +1,48 @@
+-- `timers::sound_timers` meets its contract: each clause in its turn, read off the declared row.
+-- Assumes nothing.
+use mathlib.Core.Path.{_≡_, refl, ap, sym, _∙_}
+use mathlib.Core.Bool.{Bool, true, false, _&&_}
+use mathlib.Core.List.{List, map}
+use Prim.Native.Nat.{ℕ}
+use lib.Dec.{leb}
+use lib.ListN.{take, drop}
+use borrow.Author.Needs.{needs}
+use borrow.Author.Tests.{not-true, not-false, le-leb, lt-leb}
+use Rattle.model.specs.IPv4.{ipv4}
+use Rattle.model.specs.Rows.{every}
+use Rattle.model.specs.Words as W
+use Rattle.model.specs.Sound.{isNoTimer, soundTimers}
+use Rattle.model.specs.Bools.{every-map, take-map, drop-map, first-of-three, second-of-three, third-of-three}
+use Rattle.timers.specs.declared.Timers.{Timers}
+use Rattle.timers.specs.Views.{toTimer, rowView, hasRange, isEmptyPlace}
+use Rattle.timers.proofs.sound_timers.Statement.{statement}
+use Rattle.timers.proofs.sound_timers.Tie as tie
+
+-- the model's test, said of the declared row
+clauses : (t : Timers) → (leb (t .len) 16 && every hasRange (take (t .len) (t .entries)) && every isEmptyPlace (drop (t .len) (t .entries))) ≡ soundTimers ipv4 (rowView t)
+unfolding soundTimers
+clauses t =
+    let a : every (λ (x : W.Timer ℕ). ipv4 .valid (x .addr)) (take (t .len) (map toTimer (t .entries))) ≡ every hasRange (take (t .len) (t .entries)) =
+    ap (every (λ (x : W.Timer ℕ). ipv4 .valid (x .addr))) (take-map toTimer (t .len) (t .entries)) ∙ every-map (λ (x : W.Timer ℕ). ipv4 .valid (x .addr)) toTimer (take (t .len) (t .entries)) in
+    let b : every (isNoTimer ipv4) (drop (t .len) (map toTimer (t .entries))) ≡ every isEmptyPlace (drop (t .len) (t .entries)) =
+    ap (every (isNoTimer ipv4)) (drop-map toTimer (t .len) (t .entries)) ∙ every-map (isNoTimer ipv4) toTimer (drop (t .len) (t .entries)) in
+    sym (rw (a, b))
+
+returns : tie.Need-returns
+returns c = let t = c .before .before .args .timers in first-of-three _ _ _ (lt-leb (t .len) 16 (c .if1 .taken)) ∙ clauses t
+
+returns-2 : tie.Need-returns-2
+returns-2 c =
+    let d = c .before .before in
+    let t = d .before .before .args .timers in
+    second-of-three _ _ _ (le-leb (t .len) 16 (d .if1 .left)) (sym (c .before .all-in-range .ensures) ∙ not-true _ (c .if2 .taken)) ∙ clauses t
+
+returns-3 : tie.Need-returns-3
+returns-3 c =
+    let e = c .before in
+    let d = e .before .before in
+    let t = d .before .before .args .timers in
+    c .all-empty .ensures ∙ third-of-three _ _ _ (le-leb (t .len) 16 (d .if1 .left)) (sym (e .before .all-in-range .ensures) ∙ not-false _ (e .if2 .left)) ∙ clauses t
+
+pub sound-timers-spec : {M : Type 1} → statement M
+sound-timers-spec = tie.close (tie.spec returns (λ c κs. search needs) returns-2 (λ c κs. search needs) returns-3)
