@@ -1,0 +1,2 @@
+pub mod Creating
+pub mod Adding

@@ -1,0 +1,53 @@
+-- `node::Node::spread` meets its contract: gossip is chosen from both heaps.
+-- Assumes nothing.
+use mathlib.Core.Path.{_≡_, ap, sym, _∙_}
+use Prim.Native.Nat.{ℕ, _≤_}
+use native.Mathlib.Omega.{arith}
+use lib.ListN.{length}
+use borrow.Author.Needs.{needs}
+use Rattle.model.specs.IPv4.{ipv4}
+use Rattle.model.specs.Limit.{limitOf}
+use Rattle.model.specs.Choose.{Terms, choose, termsOf}
+use Rattle.model.specs.Chosen.{at-most-58}
+use Rattle.model.specs.Good.{ranges}
+use Rattle.model.specs.Node as M
+use Rattle.member.specs.Packing.{view-many}
+use Rattle.disseminate.specs.declared.Choice.{Choice}
+use Rattle.disseminate.specs.Views.{packChoice}
+use Rattle.node.specs.declared.Node.{Node}
+use Rattle.node.specs.Views.{viewNode}
+use Rattle.node.specs.Rows.{Ready}
+use Rattle.node.specs.Parts.{spread-is}
+use Rattle.node.proofs.Node.spread.Statement.{statement}
+use Rattle.node.proofs.Node.spread.Tie as tie
+
+get-gossip-requires : tie.Need-get-gossip-requires
+unfolding viewNode
+get-gossip-requires c κs =
+    let r = c .before .before .before .before .pre in
+    (r .alive, r .deceased, r .good .alive, r .good .deceased, r .good .settings, r .members .packed .few)
+
+-- the size of a good node's settings
+size-1400 : (n : Node) → Ready n → n .settings .«max_size» ≤ 1400
+unfolding viewNode
+size-1400 n r = ranges (n .settings) (r .good .settings) .most-size
+
+returns : tie.Need-returns
+unfolding M.spread viewNode termsOf
+returns c =
+    let g = c .before .before .before .before .before in
+    let s = g .before .before .before .before .before in
+    let n = s .args .self in
+    let r = s .pre in
+    let terms : ℕ → Terms = λ k. termsOf (n .settings .«max_selected») (n .settings .«max_size») (limitOf k (n .settings .«send_constant»)) in
+    let many : n .members .len ≡ length (viewNode n .members .table) = sym (view-many (n .members) (r .members .packed)) in
+    let e : g .get-gossip .result ≡ packChoice (choose ipv4 (terms (length (viewNode n .members .table))) (viewNode n .alive) (viewNode n .deceased)) =
+    g .get-gossip .ensures ∙ ap (λ (k : ℕ). packChoice (choose ipv4 (terms k) (viewNode n .alive) (viewNode n .deceased))) many in
+    let few : length (choose ipv4 (terms (length (viewNode n .members .table))) (viewNode n .alive) (viewNode n .deceased) .chosen) ≤ 58 =
+    at-most-58 (terms (length (viewNode n .members .table))) (viewNode n .alive) (viewNode n .deceased) (size-1400 n r) (r .good .alive) (r .good .deceased) in (
+      spread-is n r (choose ipv4 (terms (length (viewNode n .members .table))) (viewNode n .alive) (viewNode n .deceased)) (g .get-gossip .result) (c .with-heaps .result) e (c .with-heaps .ensures),
+      omega (arith, ap (λ (k : Choice). k .chosen .count) e),
+    )
+
+pub spread-spec : {M : Type 1} → statement M
+spread-spec = tie.close (tie.spec get-gossip-requires (λ c κs. search needs) returns)

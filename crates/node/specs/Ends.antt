@@ -1,0 +1,36 @@
+-- How a call ends that tests first: each refusal, and what is left as it came.
+-- Assumes nothing.
+use mathlib.Core.Path.{_≡_, refl, ap, sym, _∙_}
+use mathlib.Core.Bool.{Bool, true, false}
+use mathlib.Core.List.{List, [], _∷_, map}
+use Prim.Native.Nat.{ℕ, _-_}
+use lib.ListN.{length, replicate}
+use Rattle.model.specs.declared.Refusal.{Refusal}
+use Rattle.model.specs.declared.Reply.{Reply}
+use Rattle.model.specs.declared.Reply.the-variants.{Done, Refused}
+use Rattle.model.specs.Answers.{Answer, done, refused}
+use Rattle.model.specs.IPv4.{ipv4}
+use Rattle.model.specs.Node as M
+use Rattle.model.specs.Calls.{Outcome, firstOf, unchanged, refuses, kept}
+use Rattle.node.specs.declared.Node.{Node}
+use Rattle.node.specs.declared.Answer.{Answer as CallAnswer}
+use Rattle.node.specs.Views.{storedView, unstored, packNode, noLetter, plainAnswer, answerOf}
+use Rattle.node.specs.Rows.{unstored-stored, unstored-pack}
+
+-- the first test fails, or it is passed and the others go on
+pub test-fails : {B : Type 0} (t : Bool × Refusal) (ts : List (Bool × Refusal)) (refuse : Refusal → B) (go : B) → t .0 ≡ true → firstOf (t ∷ ts) refuse go ≡ refuse (t .1)
+test-fails t ts refuse go e = ap (λ (u : Bool). elim u [ true ↦ refuse (t .1) | false ↦ firstOf ts refuse go ]) e
+
+pub test-passes : {B : Type 0} (t : Bool × Refusal) (ts : List (Bool × Refusal)) (refuse : Refusal → B) (go : B) → t .0 ≡ false → firstOf (t ∷ ts) refuse go ≡ firstOf ts refuse go
+test-passes t ts refuse go e = ap (λ (u : Bool). elim u [ true ↦ refuse (t .1) | false ↦ firstOf ts refuse go ]) e
+
+-- an outcome that changes nothing is a plain answer with the node as it came
+pub unchanged-is : (reply : Reply) (n : Node) → answerOf (unchanged reply (storedView n)) ≡ plainAnswer reply n
+unfolding answerOf
+unchanged-is reply n = λ i. record { reply = reply; node = unstored-stored n i; letters = replicate 4 noLetter; sent = 0 }
+
+-- a kept call that sends nothing
+pub kept-is : (used : ℕ) (s : M.Node ℕ) (m : Node) → m ≡ packNode s
+    → plainAnswer (Done used) m ≡ answerOf (record { reply = Done used; node = M.stored ipv4 s; messages = []; events = [] })
+unfolding answerOf
+kept-is used s m e = λ i. record { reply = Done used; node = (e ∙ sym (unstored-pack s)) i; letters = replicate 4 noLetter; sent = 0 }

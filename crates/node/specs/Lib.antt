@@ -1,0 +1,5 @@
+pub mod Ranges
+pub mod Views
+pub mod Rows
+pub mod Parts
+pub mod Ends
