@@ -1,17 +1,17 @@
 // A line's command, called and answered.
-use crate::answers::put_answer;
-use crate::answers::put_events;
-use crate::answers::put_one;
-use crate::answers::widen;
 use crate::host::Host;
 use crate::host::Rooms;
-use crate::state::least;
 use address::Address;
 use detection::Wait;
 use detection::WaitState;
 use model::Reply;
 use model::Settings;
 use report::put_reply;
+use show::least;
+use show::put_answer;
+use show::put_events;
+use show::put_one;
+use show::widen;
 use text::Command;
 use text::Phase;
 use text::Records;

@@ -1,9 +1,9 @@
--- `replayer::place_of` is safe and ends within the row.
+-- `show::place_of` is safe and ends within the row.
 -- Assumes nothing.
 use Prim.Native.Nat.{_-_, _≤_}
 use borrow.Author.Needs.{needs}
-use Rattle.replayer.proofs.state.place_of.Statement.{statement}
-use Rattle.replayer.proofs.state.place_of.Tie as tie
+use Rattle.show.proofs.state.place_of.Statement.{statement}
+use Rattle.show.proofs.state.place_of.Tie as tie
 
 abbrev Inv-loop : tie.InvT-loop
 Inv-loop n peer table i₀ i = (i ≤ n)

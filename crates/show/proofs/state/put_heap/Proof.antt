@@ -1,20 +1,20 @@
--- `replayer::put_events` is safe and ends: each turn writes one event.
+-- `show::put_heap` is safe and ends: each turn writes one entry.
 -- Assumes nothing.
 use mathlib.Core.Path.{_≡_}
 use Prim.Native.Nat.{_-_, _≤_}
 use lib.ListN.{length}
 use borrow.Author.Needs.{needs}
-use Rattle.replayer.proofs.answers.put_events.Statement.{statement}
-use Rattle.replayer.proofs.answers.put_events.Tie as tie
+use Rattle.show.proofs.state.put_heap.Statement.{statement}
+use Rattle.show.proofs.state.put_heap.Tie as tie
 
 abbrev Inv-loop : tie.InvT-loop
-Inv-loop out₀ from reported events at₀ i₀ out at i = (i ≤ reported) × (length out ≡ length out₀)
+Inv-loop out₀ from n entries at₀ i₀ out at i = (i ≤ n) × (length out ≡ length out₀)
 
 abbrev μ-loop : tie.MeasureT-loop
-μ-loop out₀ from reported events at₀ i₀ out at i = reported - i
+μ-loop out₀ from n entries at₀ i₀ out at i = n - i
 
-pub put-events-spec : {M : Type 1} → statement M
-put-events-spec =
+pub put-heap-spec : {M : Type 1} → statement M
+put-heap-spec =
     tie.close
     (tie.spec
     Inv-loop
@@ -23,8 +23,10 @@ put-events-spec =
     (λ c. search needs)
     (λ c. search needs)
     (λ c κs. search needs)
+    (λ c κs. search needs)
     (λ c. search needs)
     (λ c. search needs)
     (λ c. search needs)
+    (λ c κs. search needs)
     (λ c. search needs)
     (λ c. search needs))

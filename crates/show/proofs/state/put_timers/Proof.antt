@@ -1,11 +1,11 @@
--- `replayer::put_timers` is safe and ends: each turn writes one timer.
+-- `show::put_timers` is safe and ends: each turn writes one timer.
 -- Assumes nothing.
 use mathlib.Core.Path.{_≡_}
 use Prim.Native.Nat.{_-_, _≤_}
 use lib.ListN.{length}
 use borrow.Author.Needs.{needs}
-use Rattle.replayer.proofs.state.put_timers.Statement.{statement}
-use Rattle.replayer.proofs.state.put_timers.Tie as tie
+use Rattle.show.proofs.state.put_timers.Statement.{statement}
+use Rattle.show.proofs.state.put_timers.Tie as tie
 
 abbrev Inv-loop : tie.InvT-loop
 Inv-loop out₀ from n entries at₀ i₀ out at i = (i ≤ n) × (length out ≡ length out₀)

@@ -1,11 +1,11 @@
--- `replayer::widen` is safe and ends: each turn copies one place.
+-- `show::widen` is safe and ends: each turn copies one place.
 -- Assumes nothing.
 use mathlib.Core.Path.{_≡_}
 use Prim.Native.Nat.{_-_, _≤_}
 use lib.ListN.{length}
 use borrow.Author.Needs.{needs}
-use Rattle.replayer.proofs.answers.widen.Statement.{statement}
-use Rattle.replayer.proofs.answers.widen.Tie as tie
+use Rattle.show.proofs.answers.widen.Statement.{statement}
+use Rattle.show.proofs.answers.widen.Tie as tie
 
 abbrev Inv-loop : tie.InvT-loop
 Inv-loop rows wide₀ i₀ wide i = (i ≤ 64) × (length wide ≡ 256)
