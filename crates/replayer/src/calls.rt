@@ -1,0 +1,212 @@
+// A line's command, called and answered.
+use crate::host::Host;
+use crate::host::Rooms;
+use address::Address;
+use detection::Wait;
+use detection::WaitState;
+use model::Reply;
+use model::Settings;
+use report::put_reply;
+use show::least;
+use show::put_answer;
+use show::put_events;
+use show::put_one;
+use show::widen;
+use text::Command;
+use text::Phase;
+use text::Records;
+use types::Action;
+
+pub struct Rows {
+    pub gossip: usize,
+    pub events: usize,
+}
+
+// The places lent to a call that needs so many.
+fn rows_for(rooms: Rooms, gossip: usize, events: usize) -> Rows {
+    match rooms {
+        Rooms::AsNeeded => Rows { gossip, events },
+        Rooms::Lent {
+            gossip: lent,
+            events: others,
+        } => Rows {
+            gossip: lent,
+            events: others,
+        },
+    }
+}
+
+fn is_refused(reply: Reply) -> bool {
+    match reply {
+        Reply::Done(_) => false,
+        Reply::Already => false,
+        Reply::NotDue => false,
+        Reply::Refused(_) => true,
+    }
+}
+
+// A creation that succeeds ends what was lent before; one that is refused leaves no node.
+fn create(
+    mut host: Host,
+    settings: Settings,
+    own: Address,
+    number: u64,
+    tick: u32,
+    out: &mut [u8],
+) -> Host {
+    let answer = node::create(settings, own, number);
+    let reply = answer.reply;
+    let node = answer.node;
+    let at = put_reply(out, host.unwritten, reply);
+    let wait = Wait::new(tick);
+    if is_refused(reply) {
+        host.has_node = false;
+        host.unwritten = at;
+        return host;
+    }
+    let renewed = Host {
+        node,
+        wait,
+        rooms: Rooms::AsNeeded,
+        has_node: true,
+        is_quiet: host.is_quiet,
+        has_ended: host.has_ended,
+        line: host.line,
+        kept: host.kept,
+        unwritten: at,
+    };
+    renewed.shown(node, wait, at, out)
+}
+
+fn add(host: Host, peer: Address, number: u64, draws: &[u64], out: &mut [u8]) -> Host {
+    if !host.has_node {
+        return host.without_node(out);
+    }
+    let before = host.node;
+    let wait = host.wait;
+    let answer = node::add_peer(before, peer, number, draws);
+    let reply = answer.reply;
+    let after = answer.node;
+    let at = put_reply(out, host.unwritten, reply);
+    host.shown(after, wait, at, out)
+}
+
+fn receive(host: Host, action: Action, records: Records, draws: &[u64], out: &mut [u8]) -> Host {
+    if !host.has_node {
+        return host.without_node(out);
+    }
+    let before = host.node;
+    let wait = host.wait;
+    let rooms = host.rooms;
+    let lent = rows_for(rooms, 64, 65);
+    let rows = records.rows;
+    let received = message::receive(
+        before,
+        action,
+        rows,
+        records.given,
+        draws,
+        lent.gossip,
+        lent.events,
+    );
+    let answer = received.answer;
+    let gossip = received.gossip;
+    let events = received.events;
+    let after = answer.node;
+    let sent = put_answer(out, host.unwritten, answer, widen(gossip));
+    let at = put_events(out, sent, events, least(received.reported, 65));
+    host.shown(after, wait, at, out)
+}
+
+fn step(host: Host, now: u32, draws: &[u64], out: &mut [u8]) -> Host {
+    if !host.has_node {
+        return host.without_node(out);
+    }
+    let before = host.node;
+    let held = host.wait;
+    let rooms = host.rooms;
+    let lent = rows_for(rooms, 256, 1);
+    let stepped = detection::step(before, held, now, draws, lent.gossip, lent.events);
+    let answer = stepped.answer;
+    let gossip = stepped.gossip;
+    let events = stepped.events;
+    let wait = stepped.wait;
+    let after = answer.node;
+    let sent = put_answer(out, host.unwritten, answer, gossip);
+    let at = put_one(out, sent, events, stepped.reported);
+    host.shown(after, wait, at, out)
+}
+
+fn end_timer(host: Host, now: u32, out: &mut [u8]) -> Host {
+    if !host.has_node {
+        return host.without_node(out);
+    }
+    let before = host.node;
+    let wait = host.wait;
+    let rooms = host.rooms;
+    let lent = rows_for(rooms, 0, 1);
+    let ended = detection::end_timer(before, now, lent.gossip, lent.events);
+    let answer = ended.answer;
+    let events = ended.events;
+    let reply = answer.reply;
+    let after = answer.node;
+    let told = put_reply(out, host.unwritten, reply);
+    let at = put_one(out, told, events, ended.reported);
+    host.shown(after, wait, at, out)
+}
+
+fn wait_state(phase: Phase) -> WaitState {
+    match phase {
+        Phase::SendingPing => WaitState::SendingPing,
+        Phase::WaitingForPingAck { target, number } => {
+            WaitState::WaitingForPingAck { target, number }
+        }
+        Phase::SendingPingReq { target, number } => WaitState::SendingPingReq { target, number },
+        Phase::WaitingForPingReqAck { target, number } => {
+            WaitState::WaitingForPingReqAck { target, number }
+        }
+        Phase::Declaring { target, number } => WaitState::Declaring { target, number },
+    }
+}
+
+// Before there is a node, what is lent is forgotten: a creation starts afresh.
+fn lend_wait(mut host: Host, phase: Phase, tick: u32) -> Host {
+    let state = wait_state(phase);
+    let wait = Wait { state, since: tick };
+    host.wait = wait;
+    host
+}
+
+fn lend_rows(host: Host, gossip: usize, events: usize) -> Host {
+    let node = host.node;
+    let wait = host.wait;
+    Host {
+        node,
+        wait,
+        rooms: Rooms::Lent { gossip, events },
+        has_node: host.has_node,
+        is_quiet: host.is_quiet,
+        has_ended: host.has_ended,
+        line: host.line,
+        kept: host.kept,
+        unwritten: host.unwritten,
+    }
+}
+
+pub fn obey(host: Host, command: Command, records: Records, draws: &[u64], out: &mut [u8]) -> Host {
+    match command {
+        Command::Malformed => host.at_odds(out),
+        Command::New {
+            settings,
+            own,
+            number,
+            tick,
+        } => create(host, settings, own, number, tick, out),
+        Command::Add { peer, number } => add(host, peer, number, draws, out),
+        Command::Message(action) => receive(host, action, records, draws, out),
+        Command::Step { now } => step(host, now, draws, out),
+        Command::Timer { now } => end_timer(host, now, out),
+        Command::Wait { phase, tick } => lend_wait(host, phase, tick),
+        Command::Rows { gossip, events } => lend_rows(host, gossip, events),
+    }
+}

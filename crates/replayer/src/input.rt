@@ -1,0 +1,178 @@
+// Standard input, cut into lines.
+use crate::calls::obey;
+use crate::host::Host;
+use libc::STDIN_FILENO;
+use report::flush;
+use text::read_line;
+use words::find;
+ghost use mathlib.Core.Path.{_≡_};
+ghost use Prim.Native.Nat.{_+_, _≤_};
+
+// A part of a line, kept behind what is kept of it already: as much as there is room for.
+fn keep(line: &mut [u8], kept: usize, part: &[u8]) -> usize {
+    let mut at = kept;
+    let mut i = 0;
+    while i < part.len() {
+        at = keep_byte(line, at, part[i]);
+        i += 1;
+    }
+    at
+}
+
+// Past the end of the room the count stands at one more than there is room for.
+fn keep_byte(line: &mut [u8], at: usize, byte: u8) -> usize {
+    if at < line.len() {
+        line[at] = byte;
+        return at + 1;
+    }
+    line.len() + 1
+}
+
+fn answer_line(host: Host, line: &[u8], out: &mut [u8], draws: &mut [u64]) -> Host {
+    let read = read_line(line, draws);
+    let command = read.command;
+    let records = read.records;
+    let drawn = read.drawn;
+    if drawn <= draws.len() {
+        return obey(host, command, records, &draws[0..drawn], out);
+    }
+    host.at_odds(out)
+}
+
+// An empty line and a remark are skipped, a remark at any length.
+fn end_line(
+    mut host: Host,
+    kept: usize,
+    line: &mut [u8],
+    out: &mut [u8],
+    draws: &mut [u64],
+) -> Host {
+    host.line = std::num::wrapping_add_u64(host.line, 1);
+    host.kept = 0;
+    if kept == 0 {
+        return host;
+    }
+    if line.len() == 0 {
+        return host;
+    }
+    if line[0] == b'#' {
+        return host;
+    }
+    if line.len() < kept {
+        return host.at_odds(out);
+    }
+    answer_line(host, &line[0..kept], out, draws)
+}
+
+// A line, or the part of one: what goes on in the next chunk waits for its end.
+fn take_part(
+    mut host: Host,
+    part: &[u8],
+    is_whole: bool,
+    line: &mut [u8],
+    out: &mut [u8],
+    draws: &mut [u64],
+) -> Host {
+    let kept = keep(line, host.kept, part);
+    if is_whole {
+        return end_line(host, kept, line, out, draws);
+    }
+    host.kept = kept;
+    host
+}
+
+// The place after a line feed, or after the end.
+fn past(chunk: &[u8], feed: usize) -> usize
+    requires { do ⌜ feed ≤ (← ⟦chunk.len()⟧) ⌝ }
+    ensures { λ r. ⌜ r ≡ feed + 1 ⌝ }
+{
+    feed + 1
+}
+
+fn take_chunk(
+    mut host: Host,
+    chunk: &[u8],
+    line: &mut [u8],
+    out: &mut [u8],
+    draws: &mut [u64],
+) -> Host {
+    let mut at = 0;
+    while at < chunk.len() {
+        let feed = find(chunk, at, b'\n');
+        let is_whole = feed < chunk.len();
+        let next = take_part(host, &chunk[at..feed], is_whole, line, out, draws);
+        host = next;
+        at = past(chunk, feed);
+    }
+    host
+}
+
+// Reads once and answers the lines that end there; what is answered goes out before the next read.
+fn read_some(
+    mut host: Host,
+    chunk: &mut [u8],
+    line: &mut [u8],
+    out: &mut [u8],
+    draws: &mut [u64],
+) -> Host {
+    let got = io::count(libc::read(STDIN_FILENO, chunk), chunk);
+    if got == 0 {
+        host.has_ended = true;
+        return host;
+    }
+    let mut after = take_chunk(host, &chunk[..got], line, out, draws);
+    let at = flush(out, after.unwritten);
+    after.unwritten = at;
+    after
+}
+
+// A proved loop has to end, and nothing says that the input does: it counts down from a number that no run uses up.
+fn answer_all(
+    mut host: Host,
+    chunk: &mut [u8],
+    line: &mut [u8],
+    out: &mut [u8],
+    draws: &mut [u64],
+) -> Host {
+    let mut turns = u64::MAX;
+    while turns > 0 {
+        turns -= 1;
+        let next = read_some(host, chunk, line, out, draws);
+        if next.has_ended {
+            return next;
+        }
+        host = next;
+    }
+    host
+}
+
+// A last line without a line feed is taken.
+fn end_input(host: Host, line: &mut [u8], out: &mut [u8], draws: &mut [u64]) {
+    let kept = host.kept;
+    if kept == 0 {
+        return;
+    }
+    let last = end_line(host, kept, line, out, draws);
+    flush(out, last.unwritten);
+}
+
+fn replay(is_quiet: bool, chunk: &mut [u8], line: &mut [u8], out: &mut [u8], draws: &mut [u64]) {
+    let host = Host::new(is_quiet);
+    let after = answer_all(host, chunk, line, out, draws);
+    end_input(after, line, out, draws);
+}
+
+fn is_quiet() -> bool {
+    let mut word = [0u8; 8];
+    let length = os::arg(1, &mut word);
+    check::same(&word[..length], b"quiet")
+}
+
+// Answers standard input to its end. The argument `quiet` leaves the states out.
+pub fn run() {
+    let mut chunk = io::large_buffer();
+    let mut line = io::large_buffer();
+    let mut out = io::large_buffer();
+    let mut draws = [0u64; 1024];
+    replay(is_quiet(), &mut chunk, &mut line, &mut out, &mut draws);
+}

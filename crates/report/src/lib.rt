@@ -1,0 +1,154 @@
+// Writes answers as text. Bytes gather in a lent buffer from place 0 on, and go to standard output whenever it is full.
+use address::Address;
+use libc::STDOUT_FILENO;
+use model::Reply;
+use model::State;
+use types::Action;
+use types::Event;
+use types::Optional;
+
+// Each function takes the buffer with the place of the next byte, and gives back the place after what it put.
+pub fn put_byte(out: &mut [u8], at: usize, byte: u8) -> usize {
+    if at < out.len() {
+        out[at] = byte;
+        return at + 1;
+    }
+    io::write_all(STDOUT_FILENO, out);
+    if 0 < out.len() {
+        out[0] = byte;
+        return 1;
+    }
+    0
+}
+
+pub fn put_bytes(out: &mut [u8], from: usize, bytes: &[u8]) -> usize {
+    let mut at = from;
+    let mut i = 0;
+    while i < bytes.len() {
+        at = put_byte(out, at, bytes[i]);
+        i += 1;
+    }
+    at
+}
+
+// Writes what has gathered.
+pub fn flush(out: &mut [u8], at: usize) -> usize {
+    if at <= out.len() {
+        io::write_all(STDOUT_FILENO, &out[0..at]);
+    }
+    0
+}
+
+pub fn put_number(out: &mut [u8], at: usize, n: u64) -> usize {
+    let mut digits = [0u8; 20];
+    let count = io::decimal(n, &mut digits);
+    put_bytes(out, at, &digits[..count])
+}
+
+// A mark and a number after it.
+pub fn put_marked(out: &mut [u8], at: usize, mark: u8, n: u64) -> usize {
+    let start = put_byte(out, at, mark);
+    put_number(out, start, n)
+}
+
+fn letter_of(kind: u64) -> u8 {
+    match kind {
+        1 => b'j',
+        2 => b'r',
+        3 => b's',
+        _ => b'd',
+    }
+}
+
+// `j:FROM:SUBJECT:NUMBER`, or `n` for no event.
+pub fn put_record(out: &mut [u8], at: usize, event: Event) -> usize {
+    let parts = types::parts_of(event);
+    if parts.kind == 0 {
+        return put_byte(out, at, b'n');
+    }
+    let letter = put_byte(out, at, letter_of(parts.kind));
+    let from = put_marked(out, letter, b':', parts.from);
+    let subject = put_marked(out, from, b':', parts.subject);
+    put_marked(out, subject, b':', parts.number)
+}
+
+// An entry of a heap: its record, `*SENDS`, `/SIZE`.
+pub fn put_entry(out: &mut [u8], at: usize, event: Event, sends: u64, size: u64) -> usize {
+    let record = put_record(out, at, event);
+    let sent = put_marked(out, record, b'*', sends);
+    put_marked(out, sent, b'/', size)
+}
+
+fn state_letter(state: State) -> u8 {
+    match state {
+        State::Alive => b'a',
+        State::Pending => b'p',
+        State::Suspected => b's',
+    }
+}
+
+// `ADDRESS:STATE:NUMBER`.
+pub fn put_member(out: &mut [u8], at: usize, peer: Address, state: State, number: u64) -> usize {
+    let start = put_number(out, at, peer);
+    let colon = put_byte(out, start, b':');
+    let letter = put_byte(out, colon, state_letter(state));
+    put_marked(out, letter, b':', number)
+}
+
+// `ADDRESS:NUMBER:TICK`.
+pub fn put_timer(out: &mut [u8], at: usize, peer: Address, number: u64, tick: u32) -> usize {
+    let start = put_number(out, at, peer);
+    let middle = put_marked(out, start, b':', number);
+    put_marked(out, middle, b':', tick as u64)
+}
+
+fn put_optional(out: &mut [u8], at: usize, address: Optional) -> usize {
+    match address {
+        Optional::Absent => put_bytes(out, at, b" -"),
+        Optional::Given(a) => put_marked(out, at, b' ', a),
+    }
+}
+
+// `> TARGET` and the message without its records.
+pub fn put_message(out: &mut [u8], at: usize, target: Address, action: Action) -> usize {
+    let start = put_bytes(out, at, b"> ");
+    let sent = put_number(out, start, target);
+    match action {
+        Action::Ping { from, requested_by } => {
+            let word = put_bytes(out, sent, b" ping");
+            let sender = put_marked(out, word, b' ', from);
+            put_optional(out, sender, requested_by)
+        }
+        Action::PingReq { from, suspect } => {
+            let word = put_bytes(out, sent, b" req");
+            let sender = put_marked(out, word, b' ', from);
+            put_marked(out, sender, b' ', suspect)
+        }
+        Action::Ack { from, forward_to } => {
+            let word = put_bytes(out, sent, b" ack");
+            let sender = put_marked(out, word, b' ', from);
+            put_optional(out, sender, forward_to)
+        }
+    }
+}
+
+fn put_verdict(out: &mut [u8], at: usize, reply: Reply) -> usize {
+    match reply {
+        Reply::Done(used) => {
+            let word = put_bytes(out, at, b"= ok");
+            put_marked(out, word, b' ', used as u64)
+        }
+        Reply::Already => put_bytes(out, at, b"= already"),
+        Reply::NotDue => put_bytes(out, at, b"= notdue"),
+        Reply::Refused(refusal) => {
+            let word = put_bytes(out, at, b"= refused");
+            put_marked(out, word, b' ', model::refusal_number(refusal) as u64)
+        }
+    }
+}
+
+// The answer's own line.
+pub fn put_reply(out: &mut [u8], at: usize, reply: Reply) -> usize {
+    let end = put_verdict(out, at, reply);
+    put_byte(out, end, b'\n')
+}

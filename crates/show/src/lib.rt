@@ -1,0 +1,10 @@
+// Writes what a call answered, and the state that it left, as text.
+mod answers;
+mod state;
+
+pub use answers::put_answer;
+pub use answers::put_events;
+pub use answers::put_one;
+pub use answers::widen;
+pub use state::least;
+pub use state::put_state;

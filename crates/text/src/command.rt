@@ -1,0 +1,349 @@
+// The commands of a script, without their records and draws.
+use address::Address;
+use model::Settings;
+use types::Action;
+use words::NumberAt;
+use words::OptionalAt;
+use words::TickAt;
+use words::find;
+use words::number_at;
+use words::optional_at;
+use words::tick_at;
+
+// The state of a wait record.
+pub enum Phase {
+    SendingPing,
+    WaitingForPingAck { target: Address, number: u64 },
+    SendingPingReq { target: Address, number: u64 },
+    WaitingForPingReqAck { target: Address, number: u64 },
+    Declaring { target: Address, number: u64 },
+}
+
+pub enum Command {
+    Malformed,
+    New {
+        settings: Settings,
+        own: Address,
+        number: u64,
+        tick: u32,
+    },
+    Add {
+        peer: Address,
+        number: u64,
+    },
+    Message(Action),
+    Step {
+        now: u32,
+    },
+    Timer {
+        now: u32,
+    },
+    Wait {
+        phase: Phase,
+        tick: u32,
+    },
+    Rows {
+        gossip: usize,
+        events: usize,
+    },
+}
+
+// A command, and the place of the word after it.
+pub struct Head {
+    pub command: Command,
+    pub next: usize,
+}
+
+// The eight settings of a `new` line.
+pub struct Ticks {
+    pub values: [u32; 8],
+    pub next: usize,
+    pub is_whole: bool,
+}
+
+pub fn malformed() -> Head {
+    Head {
+        command: Command::Malformed,
+        next: 0,
+    }
+}
+
+fn ticks_at(s: &[u8], from: usize) -> Ticks {
+    let mut values = [0u32; 8];
+    let mut at = from;
+    let mut i = 0;
+    while i < 8 {
+        let TickAt::Found { value, next } = tick_at(s, at) else {
+            return Ticks {
+                values: [0u32; 8],
+                next: 0,
+                is_whole: false,
+            };
+        };
+        values[i] = value;
+        at = next;
+        i += 1;
+    }
+    Ticks {
+        values,
+        next: at,
+        is_whole: true,
+    }
+}
+
+fn settings_of(values: [u32; 8]) -> Settings {
+    Settings {
+        ping_interval: values[0],
+        ping_timeout: values[1],
+        ping_req_timeout: values[2],
+        suspect_timeout: values[3],
+        ping_req_group_size: values[4] as usize,
+        send_constant: values[5] as usize,
+        max_selected: values[6] as usize,
+        max_size: values[7] as usize,
+    }
+}
+
+fn new_at(s: &[u8], at: usize) -> Head {
+    let ticks = ticks_at(s, at);
+    if !ticks.is_whole {
+        return malformed();
+    }
+    let values = ticks.values;
+    let NumberAt::Found {
+        value: own,
+        next: after_own,
+    } = number_at(s, ticks.next)
+    else {
+        return malformed();
+    };
+    let NumberAt::Found {
+        value: number,
+        next: after_number,
+    } = number_at(s, after_own)
+    else {
+        return malformed();
+    };
+    let TickAt::Found { value: tick, next } = tick_at(s, after_number) else {
+        return malformed();
+    };
+    let settings = settings_of(values);
+    let command = Command::New {
+        settings,
+        own,
+        number,
+        tick,
+    };
+    Head { command, next }
+}
+
+fn add_at(s: &[u8], at: usize) -> Head {
+    let NumberAt::Found {
+        value: peer,
+        next: after_peer,
+    } = number_at(s, at)
+    else {
+        return malformed();
+    };
+    let NumberAt::Found {
+        value: number,
+        next,
+    } = number_at(s, after_peer)
+    else {
+        return malformed();
+    };
+    let command = Command::Add { peer, number };
+    Head { command, next }
+}
+
+fn ping_at(s: &[u8], at: usize) -> Head {
+    let NumberAt::Found {
+        value: from,
+        next: after_from,
+    } = number_at(s, at)
+    else {
+        return malformed();
+    };
+    let OptionalAt::Found {
+        address: requested_by,
+        next,
+    } = optional_at(s, after_from)
+    else {
+        return malformed();
+    };
+    let command = Command::Message(Action::new_ping(from, requested_by));
+    Head { command, next }
+}
+
+fn req_at(s: &[u8], at: usize) -> Head {
+    let NumberAt::Found {
+        value: from,
+        next: after_from,
+    } = number_at(s, at)
+    else {
+        return malformed();
+    };
+    let NumberAt::Found {
+        value: suspect,
+        next,
+    } = number_at(s, after_from)
+    else {
+        return malformed();
+    };
+    let command = Command::Message(Action::new_ping_req(from, suspect));
+    Head { command, next }
+}
+
+fn ack_at(s: &[u8], at: usize) -> Head {
+    let NumberAt::Found {
+        value: from,
+        next: after_from,
+    } = number_at(s, at)
+    else {
+        return malformed();
+    };
+    let OptionalAt::Found {
+        address: forward_to,
+        next,
+    } = optional_at(s, after_from)
+    else {
+        return malformed();
+    };
+    let command = Command::Message(Action::new_ack(from, forward_to));
+    Head { command, next }
+}
+
+fn step_at(s: &[u8], at: usize) -> Head {
+    let TickAt::Found { value: now, next } = tick_at(s, at) else {
+        return malformed();
+    };
+    let command = Command::Step { now };
+    Head { command, next }
+}
+
+fn timer_at(s: &[u8], at: usize) -> Head {
+    let TickAt::Found { value: now, next } = tick_at(s, at) else {
+        return malformed();
+    };
+    let command = Command::Timer { now };
+    Head { command, next }
+}
+
+// A host lends at most 1024 places.
+fn rows_at(s: &[u8], at: usize) -> Head {
+    let NumberAt::Found {
+        value: gossip,
+        next: after_gossip,
+    } = number_at(s, at)
+    else {
+        return malformed();
+    };
+    let NumberAt::Found {
+        value: events,
+        next,
+    } = number_at(s, after_gossip)
+    else {
+        return malformed();
+    };
+    if 1024 < gossip {
+        return malformed();
+    }
+    if 1024 < events {
+        return malformed();
+    }
+    let command = Command::Rows {
+        gossip: gossip as usize,
+        events: events as usize,
+    };
+    Head { command, next }
+}
+
+fn wait_for(phase: Phase, s: &[u8], at: usize) -> Head {
+    let TickAt::Found { value: tick, next } = tick_at(s, at) else {
+        return malformed();
+    };
+    let command = Command::Wait { phase, tick };
+    Head { command, next }
+}
+
+// A state that holds an address and a number: which one, its first word says.
+fn wait_of_peer(word: &[u8], s: &[u8], at: usize) -> Head {
+    let NumberAt::Found {
+        value: target,
+        next: after_target,
+    } = number_at(s, at)
+    else {
+        return malformed();
+    };
+    let NumberAt::Found {
+        value: number,
+        next,
+    } = number_at(s, after_target)
+    else {
+        return malformed();
+    };
+    if check::same(word, b"ack") {
+        return wait_for(Phase::WaitingForPingAck { target, number }, s, next);
+    }
+    if check::same(word, b"req") {
+        return wait_for(Phase::SendingPingReq { target, number }, s, next);
+    }
+    if check::same(word, b"reqack") {
+        return wait_for(Phase::WaitingForPingReqAck { target, number }, s, next);
+    }
+    if check::same(word, b"dead") {
+        return wait_for(Phase::Declaring { target, number }, s, next);
+    }
+    malformed()
+}
+
+fn wait_at(s: &[u8], at: usize) -> Head {
+    if s.len() < at {
+        return malformed();
+    }
+    let end = find(s, at, b' ');
+    let word = &s[at..end];
+    if check::same(word, b"ping") {
+        return wait_for(Phase::SendingPing, s, end + 1);
+    }
+    wait_of_peer(word, s, end + 1)
+}
+
+// A line's first words.
+pub fn head_of(s: &[u8]) -> Head {
+    let end = find(s, 0, b' ');
+    let verb = &s[0..end];
+    let at = end + 1;
+    if check::same(verb, b"add") {
+        return add_at(s, at);
+    }
+    if check::same(verb, b"ping") {
+        return ping_at(s, at);
+    }
+    if check::same(verb, b"req") {
+        return req_at(s, at);
+    }
+    if check::same(verb, b"ack") {
+        return ack_at(s, at);
+    }
+    if check::same(verb, b"step") {
+        return step_at(s, at);
+    }
+    other_head(verb, s, at)
+}
+
+fn other_head(verb: &[u8], s: &[u8], at: usize) -> Head {
+    if check::same(verb, b"timer") {
+        return timer_at(s, at);
+    }
+    if check::same(verb, b"new") {
+        return new_at(s, at);
+    }
+    if check::same(verb, b"wait") {
+        return wait_at(s, at);
+    }
+    if check::same(verb, b"rows") {
+        return rows_at(s, at);
+    }
+    malformed()
+}

@@ -1,0 +1,206 @@
+// A sound node, and nodes with one part of it replaced.
+use address::Address;
+use heap::Entry;
+use heap::Heap;
+use member::Member;
+use member::Members;
+use model::Settings;
+use model::State;
+use node::Node;
+use timers::Timer;
+use timers::Timers;
+use types::Event;
+use types::Gossip;
+
+pub fn settings() -> Settings {
+    Settings {
+        ping_interval: 10,
+        ping_timeout: 10,
+        ping_req_timeout: 10,
+        suspect_timeout: 10,
+        ping_req_group_size: 1,
+        send_constant: 3,
+        max_selected: 6,
+        max_size: 1400,
+    }
+}
+
+pub fn peer(addr: Address, number: u64) -> Member {
+    Member {
+        addr,
+        state: State::Alive,
+        number,
+    }
+}
+
+pub fn entry(event: Event, sends: u64, size: u64) -> Entry {
+    let gossip = Gossip { event };
+    Entry {
+        gossip,
+        sends,
+        size,
+    }
+}
+
+// An event of this node about a peer: kinds 1 to 4 are Joined, Recovered, Suspected, Deceased.
+pub fn event(kind: u64, subject: Address, number: u64) -> Event {
+    match kind {
+        1 => Event::new_node_joined(1, subject, number),
+        2 => Event::new_node_recovered(1, subject, number),
+        3 => Event::new_node_suspected(1, subject, number),
+        4 => Event::new_node_deceased(1, subject, number),
+        _ => Event::Nothing,
+    }
+}
+
+fn list() -> Members {
+    let mut table = [Member::none(); 64];
+    table[0] = peer(1, 0);
+    table[1] = peer(2, 5);
+    let mut order = [0u64; 64];
+    order[0] = 2;
+    order[1] = 1;
+    Members {
+        table,
+        order,
+        len: 2,
+        position: 1,
+    }
+}
+
+fn living() -> Heap {
+    let mut entries = [Entry::empty(); 128];
+    entries[0] = entry(event(1, 2, 0), 3, 24);
+    entries[1] = entry(event(2, 2, 127), 3, 26);
+    entries[2] = entry(event(3, 2, 128), 4, 27);
+    Heap { entries, len: 3 }
+}
+
+fn dead() -> Heap {
+    let mut entries = [Entry::empty(); 128];
+    entries[0] = entry(event(4, 3, 0), 0, 24);
+    Heap { entries, len: 1 }
+}
+
+// Timers stand in starting order, which isn't checked: here they don't.
+fn running() -> Timers {
+    let mut entries = [Timer::empty(); 16];
+    entries[0] = Timer {
+        addr: 2,
+        number: 5,
+        since: 100,
+    };
+    entries[1] = Timer {
+        addr: 9,
+        number: 0,
+        since: 50,
+    };
+    Timers { entries, len: 2 }
+}
+
+pub fn sound() -> Node {
+    let settings = settings();
+    let members = list();
+    let alive = living();
+    let deceased = dead();
+    let timers = running();
+    Node {
+        settings,
+        own: 1,
+        members,
+        alive,
+        deceased,
+        timers,
+    }
+}
+
+pub fn set_up(mut node: Node, settings: Settings) -> Node {
+    node.settings = settings;
+    node
+}
+
+pub fn owned(mut node: Node, own: Address) -> Node {
+    node.own = own;
+    node
+}
+
+pub fn listed(mut node: Node, len: usize, position: usize) -> Node {
+    let members = node.members;
+    let table = members.table;
+    let order = members.order;
+    let changed = Members {
+        table,
+        order,
+        len,
+        position,
+    };
+    node.members = changed;
+    node
+}
+
+pub fn member_at(mut node: Node, place: usize, member: Member) -> Node {
+    let members = node.members;
+    let mut table = members.table;
+    let order = members.order;
+    if place < 64 {
+        table[place] = member;
+    }
+    let changed = Members {
+        table,
+        order,
+        len: members.len,
+        position: members.position,
+    };
+    node.members = changed;
+    node
+}
+
+pub fn ordered(mut node: Node, place: usize, addr: Address) -> Node {
+    let members = node.members;
+    let table = members.table;
+    let mut order = members.order;
+    if place < 64 {
+        order[place] = addr;
+    }
+    let changed = Members {
+        table,
+        order,
+        len: members.len,
+        position: members.position,
+    };
+    node.members = changed;
+    node
+}
+
+fn heap_with(heap: Heap, place: usize, entry: Entry, len: usize) -> Heap {
+    let mut entries = heap.entries;
+    if place < 128 {
+        entries[place] = entry;
+    }
+    Heap { entries, len }
+}
+
+pub fn alive_at(mut node: Node, place: usize, entry: Entry, len: usize) -> Node {
+    let heap = node.alive;
+    let changed = heap_with(heap, place, entry, len);
+    node.alive = changed;
+    node
+}
+
+pub fn deceased_at(mut node: Node, place: usize, entry: Entry, len: usize) -> Node {
+    let heap = node.deceased;
+    let changed = heap_with(heap, place, entry, len);
+    node.deceased = changed;
+    node
+}
+
+pub fn timer_at(mut node: Node, place: usize, timer: Timer, len: usize) -> Node {
+    let timers = node.timers;
+    let mut entries = timers.entries;
+    if place < 16 {
+        entries[place] = timer;
+    }
+    let changed = Timers { entries, len };
+    node.timers = changed;
+    node
+}
