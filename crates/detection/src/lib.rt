@@ -52,12 +52,12 @@ impl Wait {
 
 // What a step gives: its answer, the wait record, the gossip of its messages in sending order, and the event that it reported.
 pub struct Stepped {
-    pub answer: Answer,
     pub wait: Wait,
-    pub gossip: [Gossip; Stepped::GOSSIP],
     pub written: usize,
-    pub events: [Gossip; Stepped::EVENTS],
     pub reported: usize,
+    pub gossip: [Gossip; Stepped::GOSSIP],
+    pub events: [Gossip; Stepped::EVENTS],
+    pub answer: Answer,
 }
 
 impl Stepped {
@@ -88,9 +88,9 @@ impl Stepped {
 
 // What a timer call gives: its answer, and the event that it reported.
 pub struct Ended {
-    pub answer: Answer,
-    pub events: [Gossip; Stepped::EVENTS],
     pub reported: usize,
+    pub events: [Gossip; Stepped::EVENTS],
+    pub answer: Answer,
 }
 
 impl Ended {

@@ -34,11 +34,11 @@ ghost use Rattle.message.specs.Answers.{noRows, oneLetter, refusedReceiv
 
 // What a message call gives: the answer, the gossip of its message, and the events to report.
 pub struct Received {
-    pub answer: Answer,
-    pub gossip: [Gossip; Received::GOSSIP],
     pub written: usize,
-    pub events: [Gossip; Heard::EVENTS],
     pub reported: usize,
+    pub gossip: [Gossip; Received::GOSSIP],
+    pub events: [Gossip; Heard::EVENTS],
+    pub answer: Answer,
 }
 
 impl Received {
