@@ -1,0 +1,82 @@
+# Writes the script that is measured (docs/REPLAY.md): for each scene a fresh node, brought to its members and heap entries,
+# then a remark `#! KIND MEMBERS ENTRIES` and the call that is measured. No call is refused.
+# usage: awk -f bench/scenes.awk          the calls of a common setting
+#        awk -v wide=1 -f bench/scenes.awk    the largest messages that there can be, for the stack
+BEGIN {
+  kind_count = split("add ping-bare ping req ack ack-forward step-ping step-await-ack step-req step-await-reqack step-declare timer", kinds, " ")
+  size_count = split("8 32 64", sizes, " ")
+  # A round of filling joins and buries so many, and leaves room for the events of the call that is measured.
+  round = 61
+  # As many records as a message of the common setting carries, or as any can.
+  records = wide ? 64 : 6
+  settings = wide ? "10 10 10 10 4 8 64 1400" : "10 10 10 10 3 3 6 1400"
+  for (k = 1; k <= kind_count; k++)
+    for (s = 1; s <= size_count; s++)
+      for (rounds = 0; rounds <= (wide ? 1 : 2); rounds++)
+        scene(kinds[k], sizes[s], rounds)
+}
+
+# 10.0.0.0 plus `place`, port 7000.
+function peer(place) {
+  return sprintf("%.0f", (167772160 + place) * 65536 + 7000)
+}
+
+# So many draws, some of them large.
+function draws(many,    i, text) {
+  for (i = 1; i <= many; i++) text = text " " (i * 7919) % 100003
+  return text
+}
+
+# A call on its line, with more draws than it can need.
+function call(text) {
+  print text " |" draws(130)
+}
+
+function record_row(letter, first, many, number,    i, text) {
+  for (i = 0; i < many; i++) text = text " " letter ":" peer(1) ":" peer(first + i) ":" number
+  return text
+}
+
+# News of listed peers, each of which is an event of its own.
+function news(members,    i, text) {
+  for (i = 0; i < records; i++) text = text " r:" peer(1) ":" peer(2 + i % (members - 2)) ":" 6 + int(i / (members - 2))
+  return text
+}
+
+# Each round puts `round` entries on either heap, and leaves the list as it was.
+function fill(rounds,    r) {
+  for (r = 1; r <= rounds; r++) {
+    call("ack " peer(1) " -" record_row("j", r * 1000, round, 0))
+    call("ack " peer(1) " -" record_row("d", r * 1000, round, 0))
+  }
+}
+
+function scene(kind, members, rounds,    i) {
+  print "new " settings " " peer(0) " 0 0"
+  fill(rounds)
+  for (i = 1; i < (kind == "add" ? members - 1 : members); i++) call("add " peer(i) " 5")
+  prepare(kind)
+  print "#! " kind " " members " " rounds * round
+  measure(kind, members)
+}
+
+# The wait record that a step is taken from; a peer waited for is suspected, a timer started.
+function prepare(kind) {
+  if (kind ~ /await/) call("ack " peer(2) " - s:" peer(2) ":" peer(1) ":5")
+  if (kind == "step-await-ack") print "wait ack " peer(1) " 5 0"
+  if (kind == "step-req") print "wait req " peer(1) " 5 0"
+  if (kind == "step-await-reqack") print "wait reqack " peer(1) " 5 0"
+  if (kind == "step-declare" || kind == "timer") print "wait dead " peer(1) " 5 0"
+  if (kind == "timer") call("step 10")
+}
+
+function measure(kind, members) {
+  if (kind == "add") call("add " peer(members) " 5")
+  if (kind == "ping-bare") call("ping " peer(1) " -")
+  if (kind == "ping") call("ping " peer(1) " -" news(members))
+  if (kind == "req") call("req " peer(1) " " peer(2) news(members))
+  if (kind == "ack") call("ack " peer(1) " -" news(members))
+  if (kind == "ack-forward") call("ack " peer(1) " " peer(2) news(members))
+  if (kind ~ /^step-/) call("step 10")
+  if (kind == "timer") print "timer 20"
+}
