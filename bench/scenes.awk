@@ -1,6 +1,6 @@
 # Writes the script that is measured (docs/REPLAY.md): for each scene a fresh node, brought to its members and heap entries,
 # then a remark `#! KIND MEMBERS ENTRIES` and the call that is measured. No call is refused.
-# usage: awk -f bench/scenes.awk          the calls of a common setting
+# usage: awk -f bench/scenes.awk              the calls of a common setting
 #        awk -v wide=1 -f bench/scenes.awk    the largest messages that there can be, for the stack
 BEGIN {
   kind_count = split("add ping-bare ping req ack ack-forward step-ping step-await-ack step-req step-await-reqack step-declare timer", kinds, " ")
@@ -12,8 +12,11 @@ BEGIN {
   settings = wide ? "10 10 10 10 4 8 64 1400" : "10 10 10 10 3 3 6 1400"
   for (k = 1; k <= kind_count; k++)
     for (s = 1; s <= size_count; s++)
-      for (rounds = 0; rounds <= (wide ? 1 : 2); rounds++)
-        scene(kinds[k], sizes[s], rounds)
+      for (rounds = 0; rounds <= (wide ? 1 : 2); rounds++) {
+        # Once before it counts: then no call is the first of its kind after a long while.
+        scene(kinds[k], sizes[s], rounds, "# ")
+        scene(kinds[k], sizes[s], rounds, "#! ")
+      }
 }
 
 # 10.0.0.0 plus `place`, port 7000.
@@ -27,13 +30,13 @@ function draws(many,    i, text) {
   return text
 }
 
-# A call on its line, with more draws than it can need.
-function call(text) {
-  print text " |" draws(130)
+# A call on its line, with as many draws as it can need at most.
+function call(text, most_draws) {
+  print text " |" draws(most_draws)
 }
 
-function record_row(letter, first, many, number,    i, text) {
-  for (i = 0; i < many; i++) text = text " " letter ":" peer(1) ":" peer(first + i) ":" number
+function record_row(letter, first, many,    i, text) {
+  for (i = 0; i < many; i++) text = text " " letter ":" peer(1) ":" peer(first + i) ":0"
   return text
 }
 
@@ -46,37 +49,37 @@ function news(members,    i, text) {
 # Each round puts `round` entries on either heap, and leaves the list as it was.
 function fill(rounds,    r) {
   for (r = 1; r <= rounds; r++) {
-    call("ack " peer(1) " -" record_row("j", r * 1000, round, 0))
-    call("ack " peer(1) " -" record_row("d", r * 1000, round, 0))
+    call("ack " peer(1) " -" record_row("j", r * 1000, round), round)
+    call("ack " peer(1) " -" record_row("d", r * 1000, round), 0)
   }
 }
 
-function scene(kind, members, rounds,    i) {
+function scene(kind, members, rounds, remark,    i) {
   print "new " settings " " peer(0) " 0 0"
   fill(rounds)
-  for (i = 1; i < (kind == "add" ? members - 1 : members); i++) call("add " peer(i) " 5")
+  for (i = 1; i < (kind == "add" ? members - 1 : members); i++) call("add " peer(i) " 5", 1)
   prepare(kind)
-  print "#! " kind " " members " " rounds * round
+  print remark kind " " members " " rounds * round
   measure(kind, members)
 }
 
 # The wait record that a step is taken from; a peer waited for is suspected, a timer started.
 function prepare(kind) {
-  if (kind ~ /await/) call("ack " peer(2) " - s:" peer(2) ":" peer(1) ":5")
+  if (kind ~ /await/) call("ack " peer(2) " - s:" peer(2) ":" peer(1) ":5", 0)
   if (kind == "step-await-ack") print "wait ack " peer(1) " 5 0"
   if (kind == "step-req") print "wait req " peer(1) " 5 0"
   if (kind == "step-await-reqack") print "wait reqack " peer(1) " 5 0"
   if (kind == "step-declare" || kind == "timer") print "wait dead " peer(1) " 5 0"
-  if (kind == "timer") call("step 10")
+  if (kind == "timer") call("step 10", 0)
 }
 
 function measure(kind, members) {
-  if (kind == "add") call("add " peer(members) " 5")
-  if (kind == "ping-bare") call("ping " peer(1) " -")
-  if (kind == "ping") call("ping " peer(1) " -" news(members))
-  if (kind == "req") call("req " peer(1) " " peer(2) news(members))
-  if (kind == "ack") call("ack " peer(1) " -" news(members))
-  if (kind == "ack-forward") call("ack " peer(1) " " peer(2) news(members))
-  if (kind ~ /^step-/) call("step 10")
+  if (kind == "add") call("add " peer(members - 1) " 5", 1)
+  if (kind == "ping-bare") call("ping " peer(1) " -", 0)
+  if (kind == "ping") call("ping " peer(1) " -" news(members), 0)
+  if (kind == "req") call("req " peer(1) " " peer(2) news(members), 0)
+  if (kind == "ack") call("ack " peer(1) " -" news(members), 0)
+  if (kind == "ack-forward") call("ack " peer(1) " " peer(2) news(members), 0)
+  if (kind ~ /^step-/) call("step 10", 64)
   if (kind == "timer") print "timer 20"
 }
