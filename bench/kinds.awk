@@ -12,4 +12,6 @@ BEGIN {
   words["step-await-reqack"] = "step, waiting for PingReqAck"
   words["step-declare"] = "step, Declaring"
   words["timer"] = "timer call"
+  words["preparing"] = "the calls that prepare these"
+  words["stored"] = "the stored list"
 }

@@ -5,17 +5,17 @@
 BEGIN {
   kind_count = split("add ping-bare ping req ack ack-forward step-ping step-await-ack step-req step-await-reqack step-declare timer", kinds, " ")
   size_count = split("8 32 64", sizes, " ")
-  # A round of filling joins and buries so many, and leaves room for the events of the call that is measured.
-  round = 61
+  # Full is as full as the events of the call that is measured leave it: both heaps have 128 places.
+  heap_count = split(wide ? "0 61" : "0 50 122", heaps, " ")
   # As many records as a message of the common setting carries, or as any can.
   records = wide ? 64 : 6
   settings = wide ? "10 10 10 10 4 8 64 1400" : "10 10 10 10 3 3 6 1400"
   for (k = 1; k <= kind_count; k++)
     for (s = 1; s <= size_count; s++)
-      for (rounds = 0; rounds <= (wide ? 1 : 2); rounds++) {
+      for (h = 1; h <= heap_count; h++) {
         # Once before it counts: then no call is the first of its kind after a long while.
-        scene(kinds[k], sizes[s], rounds, "# ")
-        scene(kinds[k], sizes[s], rounds, "#! ")
+        scene(kinds[k], sizes[s], heaps[h], "# ")
+        scene(kinds[k], sizes[s], heaps[h], "#! ")
       }
 }
 
@@ -46,20 +46,22 @@ function news(members,    i, text) {
   return text
 }
 
-# Each round puts `round` entries on either heap, and leaves the list as it was.
-function fill(rounds,    r) {
-  for (r = 1; r <= rounds; r++) {
-    call("ack " peer(1) " -" record_row("j", r * 1000, round), round)
-    call("ack " peer(1) " -" record_row("d", r * 1000, round), 0)
+# So many entries on either heap, by peers that join and die, as many at a time as a list has room for. The list stays as it was.
+function fill(entries,    first, many) {
+  for (first = 1000; entries > 0; first += 1000) {
+    many = entries < 61 ? entries : 61
+    call("ack " peer(1) " -" record_row("j", first, many), many)
+    call("ack " peer(1) " -" record_row("d", first, many), 0)
+    entries -= many
   }
 }
 
-function scene(kind, members, rounds, remark,    i) {
+function scene(kind, members, entries, remark,    i) {
   print "new " settings " " peer(0) " 0 0"
-  fill(rounds)
+  fill(entries)
   for (i = 1; i < (kind == "add" ? members - 1 : members); i++) call("add " peer(i) " 5", 1)
   prepare(kind)
-  print remark kind " " members " " rounds * round
+  print remark kind " " members " " entries
   measure(kind, members)
 }
 

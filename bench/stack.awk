@@ -8,6 +8,6 @@
 END {
   print "| stack, " machine " | KB |"
   print "|---|---|"
-  for (i = 1; i <= kinds; i++) printf "| %s | %.1f |\n", order[i] in words ? words[order[i]] : order[i], largest[order[i]] / 1024
-  printf "| the largest of %d calls | %.1f |\n", NR, most / 1024
+  for (i = 1; i <= kinds; i++) printf "| %s | %.1f |\n", words[order[i]], largest[order[i]] / 1024
+  printf "| the largest of %d calls | %.1f |\n\n", NR, most / 1024
 }

@@ -1,11 +1,9 @@
-# The tables of times, from lines `SIDE KIND MEMBERS ENTRIES NANOSECONDS`, SIDE port or rust: medians, ratios and growth.
+# The tables of times, from lines `SIDE KIND MEMBERS ENTRIES NANOSECONDS`, SIDE port or rust: times, ratios and growth.
+# `full` is the largest number of entries; between `half` and `full` the growth is taken, where `half` is given.
 {
-  side = $1
-  if (!($2 in known)) {
-    known[$2] = 1
-    order[++kinds] = $2
-  }
-  nanoseconds[side, $2, $3, $4] = $5
+  if (!($2 in known)) order[++kinds] = $2
+  known[$2] = 1
+  nanoseconds[$1, $2, $3, $4] = $5
 }
 
 END {
@@ -13,12 +11,10 @@ END {
   print "|---|---|---|---|---|"
   for (i = 1; i <= kinds; i++) {
     row(order[i], 0)
-    row(order[i], 122)
+    row(order[i], full)
   }
   printf "\nratios from %.1f to %.1f\n\n", least, most
-  print "| growth, ns (port / Rust) | a member more | an entry more on either heap |"
-  print "|---|---|---|"
-  for (i = 1; i <= kinds; i++) growth(order[i])
+  if (half) growth_table()
 }
 
 function row(kind, entries) {
@@ -34,15 +30,20 @@ function cell(kind, members, entries,    port, rust, ratio) {
   return sprintf("%.2f / %.2f = %.1f", port / 1000, rust / 1000, ratio)
 }
 
-# Between 8 and 64 members with full heaps; between heaps half full and full at 64 members.
-function growth(kind) {
-  printf "| %s | %.1f / %.1f | %.1f / %.1f |\n", words[kind], by_member("port", kind), by_member("rust", kind), by_entry("port", kind), by_entry("rust", kind)
+function growth_table() {
+  print "| growth in ns, port / Rust | a member more | an entry more |"
+  print "|---|---|---|"
+  for (i = 1; i <= kinds; i++)
+    printf "| %s | %.1f / %.1f | %.1f / %.1f |\n", words[order[i]], by_member("port", order[i]), by_member("rust", order[i]), by_entry("port", order[i]), by_entry("rust", order[i])
+  print ""
 }
 
+# From 8 to 64 members, the heaps full.
 function by_member(side, kind) {
-  return (nanoseconds[side, kind, 64, 122] - nanoseconds[side, kind, 8, 122]) / 56
+  return (nanoseconds[side, kind, 64, full] - nanoseconds[side, kind, 8, full]) / 56
 }
 
+# From half to full, on both heaps, at 64 members.
 function by_entry(side, kind) {
-  return (nanoseconds[side, kind, 64, 122] - nanoseconds[side, kind, 64, 61]) / 122
+  return (nanoseconds[side, kind, 64, full] - nanoseconds[side, kind, 64, half]) / (2 * (full - half))
 }
