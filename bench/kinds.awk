@@ -12,6 +12,6 @@ BEGIN {
   words["step-await-reqack"] = "step, waiting for PingReqAck"
   words["step-declare"] = "step, Declaring"
   words["timer"] = "timer call"
-  words["preparing"] = "the calls that prepare these"
-  words["stored"] = "the stored list"
+  words["preparing"] = "what prepares these: 61 joins or deaths in an Ack"
+  words["stored"] = "any call of the stored list"
 }

@@ -3,7 +3,8 @@
 # usage: awk -f bench/scenes.awk              the calls of a common setting
 #        awk -v wide=1 -f bench/scenes.awk    the largest messages that there can be, for the stack
 BEGIN {
-  kind_count = split("add ping-bare ping req ack ack-forward step-ping step-await-ack step-req step-await-reqack step-declare timer", kinds, " ")
+  all = "add ping-bare ping req ack ack-forward step-ping step-await-ack step-req step-await-reqack step-declare timer"
+  kind_count = split(wide ? "ping req ack ack-forward step-ping step-req" : all, kinds, " ")
   size_count = split("8 32 64", sizes, " ")
   # Full is as full as the events of the call that is measured leave it: both heaps have 128 places.
   heap_count = split(wide ? "0 61" : "0 50 122", heaps, " ")
