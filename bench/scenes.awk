@@ -3,7 +3,7 @@
 # usage: awk -f bench/scenes.awk              the calls of a common setting
 #        awk -v wide=1 -f bench/scenes.awk    the largest messages that there can be, for the stack
 BEGIN {
-  all = "add ping-bare ping req ack ack-forward step-ping step-await-ack step-req step-await-reqack step-declare timer"
+  all = "add ping-bare ping-new ping req ack ack-forward step-ping step-shuffle step-await-ack step-req step-await-reqack step-declare timer"
   kind_count = split(wide ? "ping req ack ack-forward step-ping step-req" : all, kinds, " ")
   size_count = split("8 32 64", sizes, " ")
   # Full is as full as the events of the call that is measured leave it: both heaps have 128 places.
@@ -57,17 +57,27 @@ function fill(entries,    first, many) {
   }
 }
 
-function scene(kind, members, entries, remark,    i) {
+# A peer goes anywhere into the order, but before a shuffle to its end, so that it is known when the order has come round.
+function place_of(kind, i) {
+  return kind == "step-shuffle" ? i : 7919
+}
+
+function scene(kind, members, entries, remark,    i, listed) {
   print "new " settings " " peer(0) " 0 0"
   fill(entries)
-  for (i = 1; i < (kind == "add" ? members - 1 : members); i++) call("add " peer(i) " 5", 1)
-  prepare(kind)
+  listed = kind == "add" || kind == "ping-new" ? members - 2 : members - 1
+  for (i = 1; i <= listed; i++) print "add " peer(i) " 5 | " place_of(kind, i)
+  prepare(kind, members)
   print remark kind " " members " " entries
   measure(kind, members)
 }
 
-# The wait record that a step is taken from; a peer waited for is suspected, a timer started.
-function prepare(kind) {
+# The wait record that a step is taken from; all peers but one are pinged, a peer waited for is suspected, a timer started.
+function prepare(kind, members,    i) {
+  for (i = 1; kind == "step-shuffle" && i <= members - 2; i++) {
+    call("step 10", 0)
+    print "wait ping 0"
+  }
   if (kind ~ /await/) call("ack " peer(2) " - s:" peer(2) ":" peer(1) ":5", 0)
   if (kind == "step-await-ack") print "wait ack " peer(1) " 5 0"
   if (kind == "step-req") print "wait req " peer(1) " 5 0"
@@ -79,6 +89,7 @@ function prepare(kind) {
 function measure(kind, members) {
   if (kind == "add") call("add " peer(members - 1) " 5", 1)
   if (kind == "ping-bare") call("ping " peer(1) " -", 0)
+  if (kind == "ping-new") call("ping " peer(members - 1) " -", 1)
   if (kind == "ping") call("ping " peer(1) " -" news(members), 0)
   if (kind == "req") call("req " peer(1) " " peer(2) news(members), 0)
   if (kind == "ack") call("ack " peer(1) " -" news(members), 0)

@@ -34,7 +34,7 @@ function growth_table() {
   print "| growth in ns, port / Rust | a member more | an entry more |"
   print "|---|---|---|"
   for (i = 1; i <= kinds; i++)
-    printf "| %s | %.1f / %.1f | %.1f / %.1f |\n", words[order[i]], by_member("port", order[i]), by_member("rust", order[i]), by_entry("port", order[i]), by_entry("rust", order[i])
+    printf "| %s | %d / %d | %d / %d |\n", words[order[i]], rounded(by_member("port", order[i])), rounded(by_member("rust", order[i])), rounded(by_entry("port", order[i])), rounded(by_entry("rust", order[i]))
   print ""
 }
 
@@ -46,4 +46,8 @@ function by_member(side, kind) {
 # From half to full, on both heaps, at 64 members.
 function by_entry(side, kind) {
   return (nanoseconds[side, kind, 64, full] - nanoseconds[side, kind, 64, half]) / (2 * (full - half))
+}
+
+function rounded(number) {
+  return number < 0 ? -int(0.5 - number) : int(number + 0.5)
 }
