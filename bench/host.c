@@ -12,7 +12,7 @@ extern int *__errno_location(void);
 
 enum { MONOTONIC = 1, RESULTS = 3, MOST_CALLS = 1 << 22, EMPTY_CALLS = 1000 };
 // How much stack below a call is painted, and how much of it the painter itself may be using.
-enum { REACH = 1 << 20, OWN_FRAME = 256 };
+enum { REACH = 640 << 10, OWN_FRAME = 256 };
 static const count PAINT = 0xA5A5A5A5A5A5A5A5;
 
 static count results[MOST_CALLS];
