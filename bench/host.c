@@ -9,6 +9,7 @@ extern int clock_gettime(int clock, struct moment *now);
 extern int dprintf(int descriptor, const char *format, ...);
 extern char *getenv(const char *name);
 extern int *__errno_location(void);
+extern void abort(void);
 
 enum { MONOTONIC = 1, RESULTS = 3, MOST_CALLS = 1 << 22, EMPTY_CALLS = 1000 };
 // How much stack below a call is painted, and how much of it the painter itself may be using.
@@ -48,10 +49,12 @@ __attribute__((noinline)) void bench_leave(void) {
   clock_gettime(MONOTONIC, &end);
   count took = (end.seconds - start.seconds) * 1000000000 + end.nanoseconds - start.nanoseconds;
   if (measures_stack) took = painted_over();
+  // All paint is gone: the call may have used more.
+  if (measures_stack && took == REACH) abort();
   if (calls < MOST_CALLS) results[calls++] = took;
 }
 
-// What reading the clock, or painting, adds to a call: the least that is found of an empty one.
+// What reading the clock adds to a call: the least that is found of an empty one.
 static count empty_call(void) {
   for (int i = 0; i < EMPTY_CALLS; i++) {
     bench_enter();

@@ -1,8 +1,8 @@
-# The largest stack of each kind of call, from lines `KIND BYTES`; and the largest of all.
+# The largest stack of each kind of call, from lines that begin with the kind and end with the bytes; and the largest of all.
 {
   if (!($1 in largest)) order[++kinds] = $1
-  if ($2 > largest[$1]) largest[$1] = $2
-  if ($2 > most) most = $2
+  if ($NF > largest[$1]) largest[$1] = $NF
+  if ($NF > most) most = $NF
 }
 
 END {
