@@ -8,6 +8,7 @@ use std::time::Duration;
 use tokio::sync::broadcast::{channel, Receiver};
 use tokio::task::Parked;
 
+use super::clock::timed;
 use super::convert;
 use super::script::Creation;
 use super::wire::Wire;
@@ -76,45 +77,47 @@ impl Bench {
     /// Adds a peer; `false` if it is listed already.
     pub fn add(&self, peer: &Peer) -> bool {
         let address = convert::text(peer.address);
-        finish(self.list.add_member(address, peer.number))
+        timed(|| finish(self.list.add_member(address, peer.number)))
     }
 
     pub fn handle(&self, packet: &Packet) {
-        let result = match convert::action(packet) {
-            Action::Ping(ping) => finish(self.handler.handle_ping(&ping)),
-            Action::PingReq(req) => finish(self.handler.handle_ping_req(&req)),
-            Action::Ack(ack) => finish(self.handler.handle_ack(&ack)),
-        };
-        succeeded(result);
+        let action = convert::action(packet);
+        let handler = &self.handler;
+        succeeded(timed(|| match &action {
+            Action::Ping(ping) => finish(handler.handle_ping(ping)),
+            Action::PingReq(req) => finish(handler.handle_ping_req(req)),
+            Action::Ack(ack) => finish(handler.handle_ack(ack)),
+        }));
     }
 
     /// One turn of the detection loop of `node.rs` from the given phase; the phase after it and the timer it started.
     pub fn step(&self, phase: &Phase) -> (Phase, Option<Parked>) {
         self.detector.set_state(convert::detector_state(phase));
         let detector = &self.detector;
-        succeeded(match finish(detector.state()) {
+        let state = finish(detector.state());
+        succeeded(timed(|| match &state {
             FailureDetectorState::SendingPing => finish(detector.send_ping()),
             FailureDetectorState::SendingPingReq {
                 target,
                 incarnation,
-            } => finish(detector.send_ping_req(&target, incarnation)),
+            } => finish(detector.send_ping_req(target, *incarnation)),
             FailureDetectorState::WaitingForAck {
                 target,
                 ack_type,
                 incarnation,
-            } => finish(detector.wait_for_ack(&target, &ack_type, incarnation)),
+            } => finish(detector.wait_for_ack(target, ack_type, *incarnation)),
             FailureDetectorState::DeclaringNodeAsDead {
                 target,
                 incarnation,
-            } => finish(detector.declare_node_as_dead(&target, incarnation)),
-        });
+            } => finish(detector.declare_node_as_dead(target, *incarnation)),
+        }));
         let after = convert::phase(&finish(detector.state()));
         (after, tokio::task::take_parked().pop())
     }
 
     /// Lets a parked declaration run to its end.
     pub fn end(&self, timer: Parked) {
-        finish(timer);
+        timed(|| finish(timer));
     }
 
     /// The messages sent and the events reported since the last call of this function.

@@ -1,6 +1,7 @@
 //! What drives the published code: the replay text, the host around a node, the verbs.
 mod bench;
 mod checks;
+mod clock;
 mod convert;
 mod cover;
 mod coverage;
@@ -15,6 +16,7 @@ mod run;
 mod script;
 #[cfg(test)]
 mod tests;
+mod time;
 mod wire;
 mod words;
 
@@ -28,6 +30,7 @@ usage: oracle run [quiet]            answer the script on standard input
        oracle past [quiet]           the same, and go on past the domain's edge as the published code does
        oracle gen SEED NODES CALLS   write a random script inside the domain; its coverage goes to standard error
        oracle cover                  count what the script on standard input reaches; all of it must come up
+       oracle time                   write the nanoseconds of each call of the script on standard input
        oracle limits                 compare the 585 send limits
        oracle sizes N                compare the sizes of N random gossips, and of those at the edges
        oracle heap N                 compare N random sequences of heap operations
@@ -44,6 +47,7 @@ pub fn main(arguments: &[String]) -> ExitCode {
         ["past", "quiet"] => run_script(true, true),
         ["gen", seed, nodes, calls] => generate(seed, nodes, calls),
         ["cover"] => cover::cover(io::stdin().lock()),
+        ["time"] => time::time(io::stdin().lock(), buffered_output()),
         ["limits"] => Ok(checks::limits::check()),
         ["sizes", count] => count_of(count).map(checks::sizes::check),
         ["heap", count] => count_of(count).map(checks::heap::check),
@@ -66,13 +70,17 @@ pub fn main(arguments: &[String]) -> ExitCode {
 }
 
 fn run_script(quiet: bool, past: bool) -> io::Result<bool> {
-    let out = BufWriter::with_capacity(1 << 16, io::stdout().lock());
-    run::run(io::stdin().lock(), out, Manner { quiet, past })?;
+    let manner = Manner { quiet, past };
+    run::run(io::stdin().lock(), buffered_output(), manner)?;
     Ok(true)
 }
 
+fn buffered_output() -> impl Write {
+    BufWriter::with_capacity(1 << 16, io::stdout().lock())
+}
+
 fn generate(seed: &str, nodes: &str, calls: &str) -> io::Result<bool> {
-    let mut out = BufWriter::with_capacity(1 << 16, io::stdout().lock());
+    let mut out = buffered_output();
     let coverage = gen::generate(
         &mut out,
         count_of(seed)?,

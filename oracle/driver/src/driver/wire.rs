@@ -1,4 +1,5 @@
 //! The transport lent to the published code: it keeps what is sent, and every send succeeds.
+use std::net::SocketAddr;
 use std::sync::Mutex;
 
 use async_trait::async_trait;
@@ -13,13 +14,27 @@ use crate::pb::SwimMessage;
 
 #[derive(Debug, Default)]
 pub struct Wire {
-    sent: Mutex<Vec<Sent>>,
+    /// Bytes as sent: what the driver makes of them is no part of a timed call.
+    sent: Mutex<Vec<(SocketAddr, Vec<u8>)>>,
 }
 
 impl Wire {
     /// The messages sent since the last call of this function.
     pub fn take_sent(&self) -> Vec<Sent> {
-        std::mem::take(&mut self.sent.lock().expect("one thread"))
+        let bytes = std::mem::take(&mut *self.sent.lock().expect("one thread"));
+        bytes
+            .iter()
+            .map(|(target, buf)| read(*target, buf))
+            .collect()
+    }
+}
+
+fn read(target: SocketAddr, buf: &[u8]) -> Sent {
+    let message = SwimMessage::decode(buf).expect("the published code encodes messages");
+    let action = message.action.expect("a message has an action");
+    Sent {
+        target: convert::address(&target.to_string()),
+        packet: convert::packet(&action),
     }
 }
 
@@ -36,12 +51,7 @@ impl TransportLayer for Wire {
         // Text that is an address already is not looked up anywhere.
         let target = lookup_host(target).await?.next();
         let target = target.ok_or_else(|| not_lent("a target is one address"))?;
-        let action = SwimMessage::decode(buf)?.action;
-        let action = action.ok_or_else(|| not_lent("a message has an action"))?;
-        let sent = Sent {
-            target: convert::address(&target.to_string()),
-            packet: convert::packet(&action),
-        };
+        let sent = (target, buf.to_vec());
         self.sent.lock().expect("one thread").push(sent);
         Ok(buf.len())
     }
