@@ -62,7 +62,7 @@ use Rattle.lent.proofs.write_1.Symbol.{name as #write}
 use Rattle.lent.proofs.write_1.Met as write-thm
 use Rattle.swim.specs.Contracts.{timerOf}
 use Rattle.swim.specs.Laws.{ended-answer, ended-told}
-use Rattle.swim.proofs.Writing.{nameOf, tysOf, rowTy, onTy, rval, Write, rowRef, rowVal, to-write, ask-write, wrote}
+use Rattle.swim.proofs.Writing.{nameOf, tysOf, field-part, rowTy, onTy, rval, Write, rowRef, rowVal, to-write, ask-write, wrote}
 use Rattle.swim.proofs.Out.{out, out-is}
 use Rattle.swim.proofs.Outcome as O
 use Rattle.swim.proofs.Outcome.Laws as O′
@@ -104,13 +104,13 @@ module _ {M : Type 1} (𝓤 : URA M) (H : Heap 𝓤) (A : Atoms 𝓤) (W : Given
   cell v = ‵ (fat fullShare D′.mir l 0 v)
 
   in-reported : Part Go W (cell (dval d)) fullShare (tyInt w64) l 0 (vint w64 (d .reported)) (λ u. cell (vstruct (setV (fields d) 0 u)))
-  in-reported = sub ! {i = cell (dval d)} {q = fullShare} {ν = nameOf D′.mir} {τs = tysOf D′.mir} {b = l} {o = 0} {vs = fields d} {back = cell} 0 {τ = tyInt w64} {d = 0} refl (whole ! {q = fullShare} {τ = D′.mir} {b = l} {o = 0} {v = dval d})
+  in-reported = field-part 𝓤 H A W (nameOf D′.mir) (tysOf D′.mir) l (fields d) 0 (tyInt w64) 0 refl
 
   in-events : Part Go W (cell (dval d)) fullShare (tyArray T′.mir 1) l 8 (rval (d .events)) (λ u. cell (vstruct (setV (fields d) 1 u)))
-  in-events = sub ! {i = cell (dval d)} {q = fullShare} {ν = nameOf D′.mir} {τs = tysOf D′.mir} {b = l} {o = 0} {vs = fields d} {back = cell} 1 {τ = tyArray T′.mir 1} {d = 8} refl (whole ! {q = fullShare} {τ = D′.mir} {b = l} {o = 0} {v = dval d})
+  in-events = field-part 𝓤 H A W (nameOf D′.mir) (tysOf D′.mir) l (fields d) 1 (tyArray T′.mir 1) 8 refl
 
   in-answer : Part Go W (cell (dval d)) fullShare R′.mir l 40 (LL.val R.the-type R′.the-laws (d .answer)) (λ u. cell (vstruct (setV (fields d) 2 u)))
-  in-answer = sub ! {i = cell (dval d)} {q = fullShare} {ν = nameOf D′.mir} {τs = tysOf D′.mir} {b = l} {o = 0} {vs = fields d} {back = cell} 2 {τ = R′.mir} {d = 40} refl (whole ! {q = fullShare} {τ = D′.mir} {b = l} {o = 0} {v = dval d})
+  in-answer = field-part 𝓤 H A W (nameOf D′.mir) (tysOf D′.mir) l (fields d) 2 R′.mir 40 refl
 
 -- the contract of the call by value
 module _ {M : Type 1} (𝓤 : URA M) (H : Heap 𝓤) (A : Atoms 𝓤) (mem : Memory → SProp 𝓤) (run : Routine → Fun 𝓤) where

@@ -78,7 +78,7 @@ use Rattle.lent.proofs.write_64.Symbol.{name as #write-64}
 use Rattle.lent.proofs.write_64.Met as write-64-thm
 use Rattle.swim.specs.Contracts.{room, messageOf}
 use Rattle.swim.specs.Laws.{received-ends, lent-message}
-use Rattle.swim.proofs.Writing.{nameOf, tysOf, rowTy, onTy, rval, Write, rowRef, rowVal, to-write, ask-write, wrote}
+use Rattle.swim.proofs.Writing.{nameOf, tysOf, field-part, rowTy, onTy, rval, Write, rowRef, rowVal, to-write, ask-write, wrote}
 use Rattle.swim.proofs.Out.{out, out-is}
 use Rattle.swim.proofs.Outcome as O
 use Rattle.swim.proofs.Outcome.Laws as O′
@@ -136,19 +136,19 @@ module _ {M : Type 1} (𝓤 : URA M) (H : Heap 𝓤) (A : Atoms 𝓤) (W : Given
   cell v = ‵ (fat fullShare D′.mir l 0 v)
 
   in-written : Part Go W (cell (dval d)) fullShare (tyInt w64) l 0 (vint w64 (d .written)) (λ u. cell (vstruct (setV (fields d) 0 u)))
-  in-written = sub ! {i = cell (dval d)} {q = fullShare} {ν = nameOf D′.mir} {τs = tysOf D′.mir} {b = l} {o = 0} {vs = fields d} {back = cell} 0 {τ = tyInt w64} {d = 0} refl (whole ! {q = fullShare} {τ = D′.mir} {b = l} {o = 0} {v = dval d})
+  in-written = field-part 𝓤 H A W (nameOf D′.mir) (tysOf D′.mir) l (fields d) 0 (tyInt w64) 0 refl
 
   in-reported : Part Go W (cell (dval d)) fullShare (tyInt w64) l 8 (vint w64 (d .reported)) (λ u. cell (vstruct (setV (fields d) 1 u)))
-  in-reported = sub ! {i = cell (dval d)} {q = fullShare} {ν = nameOf D′.mir} {τs = tysOf D′.mir} {b = l} {o = 0} {vs = fields d} {back = cell} 1 {τ = tyInt w64} {d = 8} refl (whole ! {q = fullShare} {τ = D′.mir} {b = l} {o = 0} {v = dval d})
+  in-reported = field-part 𝓤 H A W (nameOf D′.mir) (tysOf D′.mir) l (fields d) 1 (tyInt w64) 8 refl
 
   in-gossip : Part Go W (cell (dval d)) fullShare (tyArray T′.mir 64) l 16 (rval (d .gossip)) (λ u. cell (vstruct (setV (fields d) 2 u)))
-  in-gossip = sub ! {i = cell (dval d)} {q = fullShare} {ν = nameOf D′.mir} {τs = tysOf D′.mir} {b = l} {o = 0} {vs = fields d} {back = cell} 2 {τ = tyArray T′.mir 64} {d = 16} refl (whole ! {q = fullShare} {τ = D′.mir} {b = l} {o = 0} {v = dval d})
+  in-gossip = field-part 𝓤 H A W (nameOf D′.mir) (tysOf D′.mir) l (fields d) 2 (tyArray T′.mir 64) 16 refl
 
   in-events : Part Go W (cell (dval d)) fullShare (tyArray T′.mir 65) l 2064 (rval (d .events)) (λ u. cell (vstruct (setV (fields d) 3 u)))
-  in-events = sub ! {i = cell (dval d)} {q = fullShare} {ν = nameOf D′.mir} {τs = tysOf D′.mir} {b = l} {o = 0} {vs = fields d} {back = cell} 3 {τ = tyArray T′.mir 65} {d = 2064} refl (whole ! {q = fullShare} {τ = D′.mir} {b = l} {o = 0} {v = dval d})
+  in-events = field-part 𝓤 H A W (nameOf D′.mir) (tysOf D′.mir) l (fields d) 3 (tyArray T′.mir 65) 2064 refl
 
   in-answer : Part Go W (cell (dval d)) fullShare R′.mir l 4144 (LL.val R.the-type R′.the-laws (d .answer)) (λ u. cell (vstruct (setV (fields d) 4 u)))
-  in-answer = sub ! {i = cell (dval d)} {q = fullShare} {ν = nameOf D′.mir} {τs = tysOf D′.mir} {b = l} {o = 0} {vs = fields d} {back = cell} 4 {τ = R′.mir} {d = 4144} refl (whole ! {q = fullShare} {τ = D′.mir} {b = l} {o = 0} {v = dval d})
+  in-answer = field-part 𝓤 H A W (nameOf D′.mir) (tysOf D′.mir) l (fields d) 4 R′.mir 4144 refl
 
 -- the contracts of the reading and of the call by value
 module _ {M : Type 1} (𝓤 : URA M) (H : Heap 𝓤) (A : Atoms 𝓤) (mem : Memory → SProp 𝓤) (run : Routine → Fun 𝓤) where

@@ -70,7 +70,7 @@ use Rattle.lent.proofs.write_256.Symbol.{name as #write-256}
 use Rattle.lent.proofs.write_256.Met as write-256-thm
 use Rattle.swim.specs.Contracts.{stepOf}
 use Rattle.swim.specs.Laws.{stepped-ends, stepped-waits}
-use Rattle.swim.proofs.Writing.{nameOf, tysOf, rowTy, onTy, rval, Write, rowRef, rowVal, to-write, ask-write, wrote}
+use Rattle.swim.proofs.Writing.{nameOf, tysOf, field-part, rowTy, onTy, rval, Write, rowRef, rowVal, to-write, ask-write, wrote}
 use Rattle.swim.proofs.Out.{out, out-is}
 use Rattle.swim.proofs.Outcome as O
 use Rattle.swim.proofs.Outcome.Laws as O′
@@ -129,22 +129,22 @@ module _ {M : Type 1} (𝓤 : URA M) (H : Heap 𝓤) (A : Atoms 𝓤) (W : Given
   cell v = ‵ (fat fullShare D′.mir l 0 v)
 
   in-wait : Part Go W (cell (dval d)) fullShare Y′.mir l 0 (wval (d .wait)) (λ u. cell (vstruct (setV (fields d) 0 u)))
-  in-wait = sub ! {i = cell (dval d)} {q = fullShare} {ν = nameOf D′.mir} {τs = tysOf D′.mir} {b = l} {o = 0} {vs = fields d} {back = cell} 0 {τ = Y′.mir} {d = 0} refl (whole ! {q = fullShare} {τ = D′.mir} {b = l} {o = 0} {v = dval d})
+  in-wait = field-part 𝓤 H A W (nameOf D′.mir) (tysOf D′.mir) l (fields d) 0 Y′.mir 0 refl
 
   in-written : Part Go W (cell (dval d)) fullShare (tyInt w64) l 32 (vint w64 (d .written)) (λ u. cell (vstruct (setV (fields d) 1 u)))
-  in-written = sub ! {i = cell (dval d)} {q = fullShare} {ν = nameOf D′.mir} {τs = tysOf D′.mir} {b = l} {o = 0} {vs = fields d} {back = cell} 1 {τ = tyInt w64} {d = 32} refl (whole ! {q = fullShare} {τ = D′.mir} {b = l} {o = 0} {v = dval d})
+  in-written = field-part 𝓤 H A W (nameOf D′.mir) (tysOf D′.mir) l (fields d) 1 (tyInt w64) 32 refl
 
   in-reported : Part Go W (cell (dval d)) fullShare (tyInt w64) l 40 (vint w64 (d .reported)) (λ u. cell (vstruct (setV (fields d) 2 u)))
-  in-reported = sub ! {i = cell (dval d)} {q = fullShare} {ν = nameOf D′.mir} {τs = tysOf D′.mir} {b = l} {o = 0} {vs = fields d} {back = cell} 2 {τ = tyInt w64} {d = 40} refl (whole ! {q = fullShare} {τ = D′.mir} {b = l} {o = 0} {v = dval d})
+  in-reported = field-part 𝓤 H A W (nameOf D′.mir) (tysOf D′.mir) l (fields d) 2 (tyInt w64) 40 refl
 
   in-gossip : Part Go W (cell (dval d)) fullShare (tyArray T′.mir 256) l 48 (rval (d .gossip)) (λ u. cell (vstruct (setV (fields d) 3 u)))
-  in-gossip = sub ! {i = cell (dval d)} {q = fullShare} {ν = nameOf D′.mir} {τs = tysOf D′.mir} {b = l} {o = 0} {vs = fields d} {back = cell} 3 {τ = tyArray T′.mir 256} {d = 48} refl (whole ! {q = fullShare} {τ = D′.mir} {b = l} {o = 0} {v = dval d})
+  in-gossip = field-part 𝓤 H A W (nameOf D′.mir) (tysOf D′.mir) l (fields d) 3 (tyArray T′.mir 256) 48 refl
 
   in-events : Part Go W (cell (dval d)) fullShare (tyArray T′.mir 1) l 8240 (rval (d .events)) (λ u. cell (vstruct (setV (fields d) 4 u)))
-  in-events = sub ! {i = cell (dval d)} {q = fullShare} {ν = nameOf D′.mir} {τs = tysOf D′.mir} {b = l} {o = 0} {vs = fields d} {back = cell} 4 {τ = tyArray T′.mir 1} {d = 8240} refl (whole ! {q = fullShare} {τ = D′.mir} {b = l} {o = 0} {v = dval d})
+  in-events = field-part 𝓤 H A W (nameOf D′.mir) (tysOf D′.mir) l (fields d) 4 (tyArray T′.mir 1) 8240 refl
 
   in-answer : Part Go W (cell (dval d)) fullShare R′.mir l 8272 (LL.val R.the-type R′.the-laws (d .answer)) (λ u. cell (vstruct (setV (fields d) 5 u)))
-  in-answer = sub ! {i = cell (dval d)} {q = fullShare} {ν = nameOf D′.mir} {τs = tysOf D′.mir} {b = l} {o = 0} {vs = fields d} {back = cell} 5 {τ = R′.mir} {d = 8272} refl (whole ! {q = fullShare} {τ = D′.mir} {b = l} {o = 0} {v = dval d})
+  in-answer = field-part 𝓤 H A W (nameOf D′.mir) (tysOf D′.mir) l (fields d) 5 R′.mir 8272 refl
 
 -- the contract of the call by value
 module _ {M : Type 1} (𝓤 : URA M) (H : Heap 𝓤) (A : Atoms 𝓤) (at-mem : Memory → SProp 𝓤) (run : Routine → Fun 𝓤) where

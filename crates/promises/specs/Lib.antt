@@ -1,0 +1,5 @@
+pub mod Unique
+pub mod Made
+pub mod Refused
+pub mod Runs
+pub mod Demand3

@@ -1,0 +1,33 @@
+-- One call that changes a node, as a program makes it: what it was given, how it ended, and what it handed back. All that is known of it is its contract.
+-- Assumes nothing.
+use mathlib.Core.List.{List, map}
+use Prim.Native.Nat.{ℕ}
+use lib.ListN.{length}
+use Rattle.model.specs.declared.Reply.{Reply}
+use Rattle.history.specs.Histories.{Call, Add, Receive, Step, Timer}
+use Rattle.types.specs.declared.Gossip.{Gossip}
+use Rattle.types.specs.declared.Action.{Action}
+use Rattle.types.specs.Views.{toGossip, toAction}
+use Rattle.node.specs.declared.Node.{Node}
+use Rattle.node.specs.declared.Answer.{Answer}
+use Rattle.detection.specs.declared.Wait.{Wait}
+use Rattle.swim.specs.declared.Outcome.{Outcome}
+use Rattle.swim.specs.Contracts.{room, Adds, Receives, Steps, EndsTimer}
+
+-- the node, and what a host lends for a call: its wait record, and its rows for gossip and events
+pub record Held : Type 0 where
+  pub node : Node
+  pub wait : Wait
+  pub gossip : List Gossip
+  pub events : List Gossip
+
+-- a row that a call has no use for isn't lent, and so is as it was
+pub data Made (h : Held) : Call ℕ → Reply → Held → Type 0 where
+  adds : (a number : ℕ) (draws : List ℕ) (r : Answer) → Adds (h .node) a number draws r
+      → Made h (Add a number draws) (r .reply) (record { node = r .node; wait = h .wait; gossip = h .gossip; events = h .events })
+  receives : (action : Action) (rows : List Gossip) (draws : List ℕ) (r : Outcome) (gossip events : List Gossip) → Receives (h .node) action rows draws (h .gossip) (h .events) r gossip events
+      → Made h (Receive (toAction action) (map toGossip rows) draws (room (h .gossip) (h .events))) (r .answer .reply) (record { node = r .answer .node; wait = h .wait; gossip = gossip; events = events })
+  steps : (tick : ℕ) (draws : List ℕ) (r : Outcome) (wait : Wait) (gossip events : List Gossip) → Steps (h .node) (h .wait) tick draws (h .gossip) (h .events) r wait gossip events
+      → Made h (Step tick draws (room (h .gossip) (h .events))) (r .answer .reply) (record { node = r .answer .node; wait = wait; gossip = gossip; events = events })
+  endsTimer : (tick : ℕ) (r : Outcome) (events : List Gossip) → EndsTimer (h .node) tick (h .events) r events
+      → Made h (Timer tick (record { gossip = 0; events = length (h .events) })) (r .answer .reply) (record { node = r .answer .node; wait = h .wait; gossip = h .gossip; events = events })
