@@ -6,7 +6,7 @@ use mathlib.Core.List.{List, [], _∷_}
 use mathlib.Core.Option.{Option, none, some}
 use Prim.Native.Nat.{ℕ, _+_, _≤_, max}
 use native.Mathlib.Omega.{arith}
-use lib.ListN.{length}
+use lib.ListN.{length, length-append}
 use Rattle.model.specs.Answers.{Answer, done, refused, andThen, when}
 use Rattle.model.specs.After.{After, halts, gives, after-when, after-draw, after-then}
 use Rattle.model.specs.Draws.{Leaves, nothing, leaves-all, leaves-when, leaves-then, add-leaves}
@@ -94,3 +94,11 @@ module _ {A : Type 0} (address : Address A) where
   unfolding andMore
   gossip-leaves [] s ds = quiet-leaves s ds
   gossip-leaves (g ∷ gs) s ds = leaves-then (item-leaves (g .event) s ds) (λ o rest. leaves-then (gossip-leaves gs (o .node) rest) (λ p rest₂. leaves-all rest₂))
+
+  -- no more events than records
+  pub gossip-few : (gs : List (Gossip A)) (s : Node A) (ds : List ℕ) → After (λ o. length (o .said) ≤ length gs) (gossip address gs s ds)
+  unfolding andMore quiet
+  gossip-few [] s ds = gives {b = record { node = s; said = [] }} (omega arith)
+  gossip-few (g ∷ gs) s ds =
+      after-then (item-few (g .event) s ds) (λ o rest one.
+      after-then (gossip-few gs (o .node) rest) (λ p rest₂ others. gives (omega (arith, one, others, length-append (o .said) (p .said)))))

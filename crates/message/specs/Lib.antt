@@ -7,3 +7,4 @@ pub mod Hearing
 pub mod Answers
 pub mod Outcomes
 pub mod Tested
+pub mod Bounded

@@ -300,7 +300,7 @@ pub fn receive(
     gossip_room: usize,
     event_room: usize,
 ) -> Received
-    ensures { λ r. ⌜ r ≡ receivedOf (calls.message ipv4 (storedView node) (toAction action) (lentRows rows given) (now (draws .entry)) (record { gossip = «gossip_room»; events = «event_room» })) ⌝ }
+    ensures { λ r. ⌜ (r ≡ receivedOf (calls.message ipv4 (storedView node) (toAction action) (lentRows rows given) (now (draws .entry)) (record { gossip = «gossip_room»; events = «event_room» }))) × (r .written ≤ «gossip_room») × (r .written ≤ 64) × (r .reported ≤ «event_room») × (r .reported ≤ 65) ⌝ }
 {
     node::tests::has_rows(node);
     has_places(rows);

@@ -4,17 +4,21 @@ use mathlib.Core.Path.{_≡_, refl, ap, sym, _∙_}
 use mathlib.Core.Bool.{Bool, true, false, _&&_, _||_}
 use mathlib.Core.List.{map}
 use Prim.Native.Nat.{ℕ, _≤_, _<_}
+use native.Mathlib.Omega.{arith}
 use lib.ListN.{length, take}
 use borrow.Author.Needs.{needs}
 use borrow.Author.Tests.{not-true, not-false, lt-ltb, le-ltb}
+use Rattle.model.specs.declared.Refusal.the-variants.{Unsound, ShortRow, ManyRecords, AddressRange}
 use Rattle.model.specs.IPv4.{ipv4}
 use Rattle.model.specs.Bounds.{message-room}
 use Rattle.model.specs.Rows.{every}
 use Rattle.model.specs.Sound.{sound, validGossip}
 use Rattle.model.specs.Calls as calls
 use Rattle.types.specs.Views.{toGossip, toAction}
-use Rattle.node.specs.Views.{storedView}
+use Rattle.node.specs.Views.{viewNode, storedView}
 use Rattle.node.specs.Rows.{Ready, sound-ready}
+use Rattle.message.specs.Hearing.{lent-long}
+use Rattle.message.specs.Bounded.{refused-within, received-within}
 use Rattle.message.specs.Tested.{not-sound, row-short, too-many, out-of-range, in-range}
 use Rattle.message.proofs.receive.Statement.{statement}
 use Rattle.message.proofs.receive.Tie as tie
@@ -26,6 +30,9 @@ start c = c .before .before .before .before .before
 -- what has passed where each test was left
 sound-there : (c : tie.Else1) → sound ipv4 (storedView (start c .args .node)) ≡ true
 sound-there c = sym (c .before .sound .ensures) ∙ not-false _ (c .if1 .left)
+
+ready-there : (c : tie.Else1) → Ready (start c .args .node)
+ready-there c = sound-ready (start c .args .node) (c .before .before .before .has-rows .ensures) (sound-there c)
 
 gossip-short : (g e : ℕ) → g < 64 → calls.short message-room (record { gossip = g; events = e }) ≡ true
 gossip-short g e h = rw (lt-ltb g 64 h)
@@ -50,32 +57,32 @@ returns c =
     let t = c .before in
     let p = t .before .before in
     let a = p .before .before .before .args in
-    c .refused .ensures
-    ∙ not-sound (a .node) (toAction (a .action)) (a .rows) (a .given) (a .draws .now) (record { gossip = a .gossip-room; events = a .event-room }) (p .has-places .ensures) (sym (t .before .sound .ensures) ∙ not-true _ (t .if1 .taken))
+    refused-within (a .node) Unsound (c .refused .result) _ (a .gossip-room) (a .event-room) (c .refused .ensures)
+    (not-sound (a .node) (toAction (a .action)) (a .rows) (a .given) (a .draws .now) (record { gossip = a .gossip-room; events = a .event-room }) (p .has-places .ensures) (sym (t .before .sound .ensures) ∙ not-true _ (t .if1 .taken)))
 
 returns-2 : tie.Need-returns-2
 returns-2 c =
     let t = c .before in
     let e = t .before in
     let a = start e .args in
-    c .refused2 .ensures
-    ∙ row-short (a .node) (toAction (a .action)) (a .rows) (a .given) (a .draws .now) (record { gossip = a .gossip-room; events = a .event-room }) (e .before .before .has-places .ensures) (sound-there e) (gossip-short (a .gossip-room) (a .event-room) (t .if2 .taken))
+    refused-within (a .node) ShortRow (c .refused2 .result) _ (a .gossip-room) (a .event-room) (c .refused2 .ensures)
+    (row-short (a .node) (toAction (a .action)) (a .rows) (a .given) (a .draws .now) (record { gossip = a .gossip-room; events = a .event-room }) (e .before .before .has-places .ensures) (sound-there e) (gossip-short (a .gossip-room) (a .event-room) (t .if2 .taken)))
 
 returns-3 : tie.Need-returns-3
 returns-3 c =
     let t = c .before in
     let e = t .before .before in
     let a = start e .args in
-    c .refused3 .ensures
-    ∙ row-short (a .node) (toAction (a .action)) (a .rows) (a .given) (a .draws .now) (record { gossip = a .gossip-room; events = a .event-room }) (e .before .before .has-places .ensures) (sound-there e) (events-short (a .gossip-room) (a .event-room) (t .before .if2 .left) (t .if3 .taken))
+    refused-within (a .node) ShortRow (c .refused3 .result) _ (a .gossip-room) (a .event-room) (c .refused3 .ensures)
+    (row-short (a .node) (toAction (a .action)) (a .rows) (a .given) (a .draws .now) (record { gossip = a .gossip-room; events = a .event-room }) (e .before .before .has-places .ensures) (sound-there e) (events-short (a .gossip-room) (a .event-room) (t .before .if2 .left) (t .if3 .taken)))
 
 returns-4 : tie.Need-returns-4
 returns-4 c =
     let t = c .before in
     let e = t .before .before .before in
     let a = start e .args in
-    c .refused4 .ensures
-    ∙ too-many (a .node) (toAction (a .action)) (a .rows) (a .given) (a .draws .now) (record { gossip = a .gossip-room; events = a .event-room }) (e .before .before .has-places .ensures) (sound-there e) (room-there (t .before)) (t .if4 .taken)
+    refused-within (a .node) ManyRecords (c .refused4 .result) _ (a .gossip-room) (a .event-room) (c .refused4 .ensures)
+    (too-many (a .node) (toAction (a .action)) (a .rows) (a .given) (a .draws .now) (record { gossip = a .gossip-room; events = a .event-room }) (e .before .before .has-places .ensures) (sound-there e) (room-there (t .before)) (t .if4 .taken))
 
 returns-5 : tie.Need-returns-5
 returns-5 c =
@@ -84,8 +91,8 @@ returns-5 c =
     let e = f .before .before .before in
     let a = start e .args in
     let bad : (calls.validAction ipv4 (toAction (a .action)) && every (validGossip ipv4) (map toGossip (take (a .given) (a .rows)))) ≡ false = rw (sym (t .before .valid-action .ensures) ∙ not-true _ (t .if5 .taken)) in
-    c .refused5 .ensures
-    ∙ out-of-range (a .node) (toAction (a .action)) (a .rows) (a .given) (a .draws .now) (record { gossip = a .gossip-room; events = a .event-room }) (e .before .before .has-places .ensures) (sound-there e) (room-there (f .before)) (f .if4 .left) bad
+    refused-within (a .node) AddressRange (c .refused5 .result) _ (a .gossip-room) (a .event-room) (c .refused5 .ensures)
+    (out-of-range (a .node) (toAction (a .action)) (a .rows) (a .given) (a .draws .now) (record { gossip = a .gossip-room; events = a .event-room }) (e .before .before .has-places .ensures) (sound-there e) (room-there (f .before)) (f .if4 .left) bad)
 
 returns-6 : tie.Need-returns-6
 returns-6 c =
@@ -95,16 +102,15 @@ returns-6 c =
     let e = f .before .before .before in
     let a = start e .args in
     let bad : (calls.validAction ipv4 (toAction (a .action)) && every (validGossip ipv4) (map toGossip (take (a .given) (a .rows)))) ≡ false = rw (action-there g, sym (t .before .valid-rows .ensures) ∙ not-true _ (t .if6 .taken)) in
-    c .refused6 .ensures
-    ∙ out-of-range (a .node) (toAction (a .action)) (a .rows) (a .given) (a .draws .now) (record { gossip = a .gossip-room; events = a .event-room }) (e .before .before .has-places .ensures) (sound-there e) (room-there (f .before)) (f .if4 .left) bad
+    refused-within (a .node) AddressRange (c .refused6 .result) _ (a .gossip-room) (a .event-room) (c .refused6 .ensures)
+    (out-of-range (a .node) (toAction (a .action)) (a .rows) (a .given) (a .draws .now) (record { gossip = a .gossip-room; events = a .event-room }) (e .before .before .has-places .ensures) (sound-there e) (room-there (f .before)) (f .if4 .left) bad)
 
 dispatch-action-requires : tie.Need-dispatch-action-requires
 dispatch-action-requires c κs =
     let g = c .before .before in
     let f = g .before .before in
     let e = f .before .before .before in
-    let h = e .before .before .before in
-    (sound-ready (start e .args .node) (h .has-rows .ensures) (sound-there e), f .if4 .left, rows-there c, action-there g, e .before .before .has-places .ensures)
+    (ready-there e, f .if4 .left, rows-there c, action-there g, e .before .before .has-places .ensures)
 
 returns-7 : tie.Need-returns-7
 returns-7 c =
@@ -114,8 +120,14 @@ returns-7 c =
     let e = f .before .before .before in
     let a = start e .args in
     let good : (calls.validAction ipv4 (toAction (a .action)) && every (validGossip ipv4) (map toGossip (take (a .given) (a .rows)))) ≡ true = rw (action-there g, rows-there r) in
-    c .dispatch-action .ensures
-    ∙ in-range (a .node) (toAction (a .action)) (a .rows) (a .given) (a .draws .now) (record { gossip = a .gossip-room; events = a .event-room }) (e .before .before .has-places .ensures) (sound-there e) (room-there (f .before)) (f .if4 .left) good
+    let long : length (map toGossip (take (a .given) (a .rows))) ≡ a .given = lent-long (a .rows) (a .given) (e .before .before .has-places .ensures) (f .if4 .left) in
+    let within = received-within (map toGossip (take (a .given) (a .rows))) (viewNode (a .node)) (a .draws .now) (ready-there e .good) (omega (arith, f .if4 .left, long)) (rows-there r) (toAction (a .action)) (action-there g) (storedView (a .node)) (c .dispatch-action .result) (c .dispatch-action .ensures) in (
+      c .dispatch-action .ensures ∙ in-range (a .node) (toAction (a .action)) (a .rows) (a .given) (a .draws .now) (record { gossip = a .gossip-room; events = a .event-room }) (e .before .before .has-places .ensures) (sound-there e) (room-there (f .before)) (f .if4 .left) good,
+      omega (arith, within .0, f .before .before .if2 .left),
+      within .0,
+      omega (arith, within .1, f .before .if3 .left),
+      within .1,
+    )
 
 pub receive-spec : {M : Type 1} → statement M
 receive-spec =

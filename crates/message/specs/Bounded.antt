@@ -1,0 +1,83 @@
+-- How much a message call writes and reports at most: 64 records and 65 events.
+-- Assumes nothing.
+use mathlib.Core.Path.{_≡_, ap, _∙_}
+use mathlib.Core.Bool.{true}
+use mathlib.Core.List.{List, [], _∷_, _++_}
+use mathlib.Core.Option.{Option, none, some}
+use Prim.Native.Nat.{ℕ, _≤_}
+use native.Mathlib.Omega.{arith}
+use lib.ListN.{length, length-append}
+use Rattle.model.specs.declared.Refusal.{Refusal}
+use Rattle.model.specs.Rows.{every}
+use Rattle.model.specs.Bools.{and-split}
+use Rattle.model.specs.Answers.{Answer, done, refused, andThen}
+use Rattle.model.specs.After.{After, halts, gives, after-then, after-both}
+use Rattle.model.specs.IPv4.{ipv4, ipv4-lawful}
+use Rattle.model.specs.Words as W
+use Rattle.model.specs.Limit.{limitOf}
+use Rattle.model.specs.Choose.{termsOf}
+use Rattle.model.specs.Chosen.{at-most-58}
+use Rattle.model.specs.Node as M
+use Rattle.model.specs.Handler as handler
+use Rattle.model.specs.Sound.{validGossip}
+use Rattle.model.specs.Good.{Good, ranges}
+use Rattle.model.specs.Keeps.{gossip-keeps, admit-keeps, more-keeps}
+use Rattle.model.specs.Calls as calls
+use Rattle.node.specs.declared.Node.{Node}
+use Rattle.message.specs.declared.Received.{Received}
+use Rattle.message.specs.Drawn.{gossip-few, admit-few}
+use Rattle.message.specs.Answers.{refusedReceived, receivedOf}
+
+-- what rules leave of a good node, and at most so many events
+abbrev Said : ℕ → M.Out ℕ → Type 0
+Said k o = Good ipv4 (o .node) × (length (o .said) ≤ k)
+
+abbrev Within : M.Effect ℕ → Type 0
+Within e = (length (calls.packed (e .messages)) ≤ 64) × (length (e .events) ≤ 65)
+
+spread-few : (s : M.Node ℕ) → Good ipv4 s → length (M.spread ipv4 s .gossip) ≤ 58
+unfolding M.spread termsOf
+spread-few s g =
+    at-most-58 (termsOf (s .settings .«max_selected») (s .settings .«max_size») (limitOf (length (s .members .table)) (s .settings .«send_constant»))) (s .alive) (s .deceased) (ranges (s .settings) (g .settings) .most-size) (g .alive) (g .deceased)
+
+answered-within : (target : ℕ) (a : W.Action ℕ) (o : M.Out ℕ) → Said 65 o → Within (handler.answerTo ipv4 target a o)
+unfolding handler.answerTo
+answered-within target a o p = (omega (arith, length-append (M.spread ipv4 (o .node) .gossip) [], spread-few (o .node) (p .0)), p .1)
+
+module _ (gs : List (W.Gossip ℕ)) (s : M.Node ℕ) (ds : List ℕ) (good : Good ipv4 s) (few : length gs ≤ 64) (valid : every (validGossip ipv4) gs ≡ true) where
+  heard : After (Said 64) (handler.gossip ipv4 gs s ds)
+  heard = after-both (λ o k f. (k .good, omega (arith, f, few))) (gossip-keeps ipv4 ipv4-lawful gs s ds good valid) (gossip-few ipv4 gs s ds)
+
+  admitted : (from : ℕ) → ipv4 .valid from ≡ true → After (Said 65) (M.andMore (handler.gossip ipv4 gs s ds) (handler.admit ipv4 from))
+  unfolding M.andMore
+  admitted from v =
+      after-then heard (λ o rest p.
+      after-then {P = Said 1} (after-both (λ q k f. (k .good, f)) (admit-keeps ipv4 ipv4-lawful from (o .node) rest (p .0) v) (admit-few ipv4 from (o .node) rest)) (λ q rest₂ r.
+      gives (r .0, omega (arith, p .1, r .1, length-append (o .said) (q .said)))))
+
+  handled : (action : W.Action ℕ) → calls.validAction ipv4 action ≡ true → After Within (handler.handle ipv4 action gs s ds)
+  unfolding handler.handle handler.forwarded calls.validAction
+  handled (W.Ping from by) v = after-then (admitted from (and-split _ _ v .0)) (λ o rest p. gives (answered-within _ _ o p))
+  handled (W.PingReq from suspect) v = after-then heard (λ o rest p. gives (answered-within _ _ o (p .0, omega (arith, p .1))))
+  handled (W.Ack from none) v = after-then heard (λ o rest p. gives (omega arith, omega (arith, p .1)))
+  handled (W.Ack from (some to)) v = after-then heard (λ o rest p. gives (omega (arith, few, length-append gs []), omega (arith, p .1)))
+
+  kept-within : (t : M.Stored ℕ) (x : Answer (M.Effect ℕ)) → After Within x → (receivedOf (calls.kept ipv4 t ds x) .written ≤ 64) × (receivedOf (calls.kept ipv4 t ds x) .reported ≤ 65)
+  unfolding receivedOf
+  kept-within t (refused r) p = (omega arith, omega arith)
+  kept-within t (done e rest) (gives p) = p
+
+  -- the rows of a message call have room for what it gives
+  pub received-within : (action : W.Action ℕ) → calls.validAction ipv4 action ≡ true → (t : M.Stored ℕ) (r : Received) → r ≡ receivedOf (calls.kept ipv4 t ds (handler.handle ipv4 action gs s ds))
+      → (r .written ≤ 64) × (r .reported ≤ 65)
+  received-within action v t r e =
+      let k = kept-within t (handler.handle ipv4 action gs s ds) (handled action v) in
+      (omega (arith, k .0, ap (λ (x : Received). x .written) e), omega (arith, k .1, ap (λ (x : Received). x .reported) e))
+
+-- a refusal writes and reports nothing
+pub refused-within : (n : Node) (u : Refusal) (r o : Received) (gossips events : ℕ) → r ≡ refusedReceived n u → refusedReceived n u ≡ o
+    → (r ≡ o) × (r .written ≤ gossips) × (r .written ≤ 64) × (r .reported ≤ events) × (r .reported ≤ 65)
+refused-within n u r o gossips events e p =
+    let w = ap (λ (x : Received). x .written) e in
+    let v = ap (λ (x : Received). x .reported) e in
+    (e ∙ p, omega (arith, w), omega (arith, w), omega (arith, v), omega (arith, v))
