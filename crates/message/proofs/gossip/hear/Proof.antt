@@ -71,7 +71,7 @@ turn-requires : tie.Need-turn-requires Inv-loop μ-loop
 turn-requires c κs =
     let at = c .before .loop in
     let s = c .before .before .before .before in
-    (at .inv .2 .ready .members, at .inv .2 .ready .deceased, s .pre .1, is-due c, s .pre .2, s .pre .3, at .inv .2 .within)
+    (at .inv .2 .ready .members, at .inv .2 .ready .deceased, s .pre .1, is-due c, s .pre .2, s .pre .3, omega (arith, at .inv .2 .within))
 
 room : (c : tie.After-turn Inv-loop μ-loop) → c .before .before .loop .report .count < 65
 room c = omega (arith, is-due (c .before), c .before .before .loop .inv .1, start c .pre .1)
