@@ -42,7 +42,7 @@ use Rattle.message.specs.declared.rules.Told.{Told}
 use Rattle.message.specs.declared.rules.Told.the-variants.{Nothing, Living, Dead}
 use Rattle.message.specs.declared.gossip.Heard.{Heard}
 use Rattle.message.specs.declared.gossip.Report.{Report}
-use Rattle.message.specs.Views.{Rule, Carried, carriedBy, carriedOf, stops, firstSaid, HeardAs, notedOf, ruleAt, senderRule, isLiving, isDead, isTold, roomed, pushedTo, noted}
+use Rattle.message.specs.Views.{Rule, Carried, carriedBy, carriedOf, stops, firstSaid, HeardAs, notedOf, ruleAt, senderRule, isLiving, isDead, isTold, roomed, drewAfter, pushedTo, noted}
 use Rattle.message.specs.Drawn.{Few, quiet-few, quiet-leaves, item-few, item-leaves, admit-few, admit-leaves}
 
 -- what was said before, and then an answer
@@ -278,19 +278,16 @@ turn-sure sender (x ∷ gs) (suc i) s ds g v w = turn-sure sender gs i s ds g (a
 abbrev pub after : Node → Told → Members → Gossip → Node
 after n t m g = withHeaps (withMembers n m) (pick (isLiving t) (pushedTo (n .alive) g) (n .alive)) (pick (isDead t) (pushedTo (n .deceased) g) (n .deceased))
 
-abbrev pub drewAfter : Drew → Told → Node → Drew
-drewAfter d t n = roomed (roomed d (isLiving t) (n .alive .len)) (isDead t) (n .deceased .len)
-
 abbrev pub told-too : Heard → Told → Members → Gossip → ℕ → Heard
 told-too h t m g more = record { node = after (h .node) t m g; events = pick (isTold t) (set (h .events) (h .reported) g) (h .events); reported = pick (isTold t) (h .reported + 1) (h .reported); drew = Used more }
 
-pub carried-drew : (n : Node) (d : Drew) (t : Told) (m : Members) (g : Gossip) → drewAfter d t n ≡ carriedBy d t n m g .drew
+pub carried-drew : (n : Node) (d : Drew) (t : Told) (m : Members) (g : Gossip) → drewAfter d t (n .alive .len) (n .deceased .len) ≡ carriedBy d t n m g .drew
 carried-drew n (Refused u) t m g = refl
 carried-drew n (Used k) Nothing m g = refl
 carried-drew n (Used k) Living m g = elim (leb 128 (n .alive .len)) as (λ u. roomed (pick u (Refused HeapFull) (Used k)) false (n .deceased .len) ≡ (pick u (stops n HeapFull) (record { node = withHeaps (withMembers n m) (pushedTo (n .alive) g) (n .deceased); said = g; told = 1; drew = Used k })) .drew) [ true ↦ refl | false ↦ refl ]
 carried-drew n (Used k) Dead m g = elim (leb 128 (n .deceased .len)) as (λ u. pick u (Refused HeapFull) (Used k) ≡ (pick u (stops n HeapFull) (record { node = withHeaps (withMembers n m) (n .alive) (pushedTo (n .deceased) g); said = g; told = 1; drew = Used k })) .drew) [ true ↦ refl | false ↦ refl ]
 
-pub carried-noted : (h : Heard) (d : Drew) (t : Told) (m : Members) (g : Gossip) (more : ℕ) → drewAfter d t (h .node) ≡ Used more → told-too h t m g more ≡ notedOf h (carriedBy d t (h .node) m g)
+pub carried-noted : (h : Heard) (d : Drew) (t : Told) (m : Members) (g : Gossip) (more : ℕ) → drewAfter d t (h .node .alive .len) (h .node .deceased .len) ≡ Used more → told-too h t m g more ≡ notedOf h (carriedBy d t (h .node) m g)
 unfolding isUsed
 carried-noted h (Refused u) t m g more e = let z : _≡_ {A = ℕ} 0 1 = ap isUsed e in absurd (omega arith)
 carried-noted h (Used k) Nothing m g more e = let z : more ≡ k = cc in λ i. record { node = withMembers (h .node) m; events = h .events; reported = h .reported; drew = Used (z i) }

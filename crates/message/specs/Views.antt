@@ -130,6 +130,9 @@ abbrev pub roomed : Drew → Bool → ℕ → Drew
 roomed (Used k) goes held = pick goes (pick (leb 128 held) (Refused HeapFull) (Used k)) (Used k)
 roomed (Refused u) goes held = Refused u
 
+abbrev pub drewAfter : Drew → Told → ℕ → ℕ → Drew
+drewAfter d t living dead = roomed (roomed d (isLiving t) living) (isDead t) dead
+
 -- an event more, or none
 abbrev pub noted : Report → Gossip → Bool → Report
 noted r g told = record { events = pick told (set (r .events) (r .count) g) (r .events); count = pick told (r .count + 1) (r .count) }

@@ -1,5 +1,6 @@
 // The gossip records of a message and its sender, one after the other, and what they report.
 use crate::rules::Told;
+use crate::rules::turn;
 use heap::Heap;
 use model::Refusal;
 use node::Node;
@@ -22,7 +23,14 @@ ghost use Rattle.types.specs.Views.{toGossip, toOptional, noGossip};
 ghost use Rattle.heap.specs.Views.{Packed};
 ghost use Rattle.node.specs.Views.{viewNode};
 ghost use Rattle.node.specs.Rows.{Ready};
-ghost use Rattle.message.specs.Views.{HeardAs, senderRule, isLiving, isDead, isTold, roomed, pushedTo, noted};
+ghost use Rattle.message.specs.Views.{HeardAs, senderRule, isLiving, isDead, isTold, roomed, drewAfter, pushedTo, noted};
+
+// What a message brings: its records, and the sender if it is to come in.
+pub struct Lent {
+    pub rows: [Gossip; 64],
+    pub given: usize,
+    pub sender: Optional,
+}
 
 // What was heard: the node, the events to report and the draws used. Where a rule was refused, only that counts.
 pub struct Heard {
@@ -95,6 +103,14 @@ fn with_room(drew: Drew, goes: bool, held: usize) -> Drew
     }
 }
 
+// The same, where an event goes to one heap or the other.
+fn with_rooms(drew: Drew, told: Told, living: usize, dead: usize) -> Drew
+    ensures { λ r. ⌜ r ≡ drewAfter drew told living dead ⌝ }
+{
+    let first = with_room(drew, to_living(told), living);
+    with_room(first, to_dead(told), dead)
+}
+
 // The heap with an event that goes to it, or as it came.
 fn emit(heap: Heap, said: Gossip, goes: bool) -> Heap
     requires { ⌜ Packed heap ⌝ }
@@ -144,15 +160,9 @@ fn refused(node: Node, refusal: Refusal) -> Heard
 }
 
 // The records in their order and then the sender: each rule is decided, and then its event pushed and noted.
-pub fn hear(
-    mut node: Node,
-    rows: [Gossip; 64],
-    given: usize,
-    sender: Optional,
-    draws: &[u64],
-) -> Heard
-    requires { ⌜ Ready node × (given ≤ 64) × (every (validGossip ipv4) (map toGossip (take given rows)) ≡ true) × (calls.validOption ipv4 (toOptional sender) ≡ true) ⌝ }
-    ensures { λ r. ⌜ HeardAs (now (draws .entry)) (M.andMore (handler.gossip ipv4 (map toGossip (take given rows)) (viewNode node) (now (draws .entry))) (senderRule sender)) r ⌝ }
+pub fn hear(mut node: Node, lent: Lent, draws: &[u64]) -> Heard
+    requires { ⌜ Ready node × (length (lent .rows) ≡ 64) × (lent .given ≤ 64) × (every (validGossip ipv4) (map toGossip (take (lent .given) (lent .rows))) ≡ true) × (calls.validOption ipv4 (toOptional (lent .sender)) ≡ true) ⌝ }
+    ensures { λ r. ⌜ HeardAs (now (draws .entry)) (M.andMore (handler.gossip ipv4 (map toGossip (take (lent .given) (lent .rows))) (viewNode node) (now (draws .entry))) (senderRule (lent .sender))) r ⌝ }
 {
     let mut report = Report {
         events: no_events(),
@@ -160,24 +170,11 @@ pub fn hear(
     };
     let mut used = 0;
     let mut i = 0;
-    while i <= given {
-        let ruled = crate::rules::turn(
-            node.members,
-            node.own,
-            node.deceased,
-            rows,
-            given,
-            sender,
-            i,
-            draws,
-            used,
-        );
+    while i <= lent.given {
+        let ruled = turn(node.members, node.own, node.deceased, lent, i, draws, used);
         let told = ruled.told;
-        let living = to_living(told);
-        let dead = to_dead(told);
         let decided = ruled.drew;
-        let first = with_room(decided, living, node.alive.len);
-        let drew = with_room(first, dead, node.deceased.len);
+        let drew = with_rooms(decided, told, node.alive.len, node.deceased.len);
         match drew {
             Drew::Used(more) => used += more,
             Drew::Refused(refusal) => {
@@ -186,8 +183,8 @@ pub fn hear(
         }
         let members = ruled.members;
         node.members = members;
-        node.alive = emit(node.alive, ruled.said, living);
-        node.deceased = emit(node.deceased, ruled.said, dead);
+        node.alive = emit(node.alive, ruled.said, to_living(told));
+        node.deceased = emit(node.deceased, ruled.said, to_dead(told));
         report = note(report, ruled.said, is_told(told));
         i += 1;
     }

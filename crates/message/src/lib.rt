@@ -5,6 +5,7 @@ pub mod tests;
 
 use address::Address;
 use gossip::Heard;
+use gossip::Lent;
 use model::Refusal;
 use model::Reply;
 use model::State;
@@ -193,10 +194,15 @@ fn handle_ping(
     given: usize,
     draws: &[u64],
 ) -> Received
-    requires { ⌜ Ready node × (given ≤ 64) × (every (validGossip ipv4) (map toGossip (take given rows)) ≡ true) × (ipv4 .valid from ≡ true) ⌝ }
+    requires { ⌜ Ready node × (length rows ≡ 64) × (given ≤ 64) × (every (validGossip ipv4) (map toGossip (take given rows)) ≡ true) × (ipv4 .valid from ≡ true) ⌝ }
     ensures { λ r. ⌜ r ≡ receivedOf (calls.kept ipv4 (storedView node) (now (draws .entry)) (handler.handle ipv4 (W.Ping from (toOptional «requested_by»)) (map toGossip (take given rows)) (viewNode node) (now (draws .entry)))) ⌝ }
 {
-    let heard = gossip::hear(node, rows, given, Optional::Given(from), draws);
+    let lent = Lent {
+        rows,
+        given,
+        sender: Optional::Given(from),
+    };
+    let heard = gossip::hear(node, lent, draws);
     let drew = heard.drew;
     match drew {
         Drew::Used(used) => {
@@ -216,10 +222,15 @@ fn handle_ping_req(
     given: usize,
     draws: &[u64],
 ) -> Received
-    requires { ⌜ Ready node × (given ≤ 64) × (every (validGossip ipv4) (map toGossip (take given rows)) ≡ true) ⌝ }
+    requires { ⌜ Ready node × (length rows ≡ 64) × (given ≤ 64) × (every (validGossip ipv4) (map toGossip (take given rows)) ≡ true) ⌝ }
     ensures { λ r. ⌜ r ≡ receivedOf (calls.kept ipv4 (storedView node) (now (draws .entry)) (handler.handle ipv4 (W.PingReq from suspect) (map toGossip (take given rows)) (viewNode node) (now (draws .entry)))) ⌝ }
 {
-    let heard = gossip::hear(node, rows, given, Optional::Absent, draws);
+    let lent = Lent {
+        rows,
+        given,
+        sender: Optional::Absent,
+    };
+    let heard = gossip::hear(node, lent, draws);
     let drew = heard.drew;
     match drew {
         Drew::Used(used) => {
@@ -257,10 +268,15 @@ fn handle_ack(
     given: usize,
     draws: &[u64],
 ) -> Received
-    requires { ⌜ Ready node × (given ≤ 64) × (every (validGossip ipv4) (map toGossip (take given rows)) ≡ true) × (length rows ≡ 64) ⌝ }
+    requires { ⌜ Ready node × (length rows ≡ 64) × (given ≤ 64) × (every (validGossip ipv4) (map toGossip (take given rows)) ≡ true) ⌝ }
     ensures { λ r. ⌜ r ≡ receivedOf (calls.kept ipv4 (storedView node) (now (draws .entry)) (handler.handle ipv4 (W.Ack from (toOptional «forward_to»)) (map toGossip (take given rows)) (viewNode node) (now (draws .entry)))) ⌝ }
 {
-    let heard = gossip::hear(node, rows, given, Optional::Absent, draws);
+    let lent = Lent {
+        rows,
+        given,
+        sender: Optional::Absent,
+    };
+    let heard = gossip::hear(node, lent, draws);
     let drew = heard.drew;
     match drew {
         Drew::Used(used) => acknowledge(heard, used, from, forward_to, rows, given),

@@ -1,4 +1,5 @@
 // The rules of the four events, and of a Ping's sender: each decides what becomes of the list, which event goes to which heap, and the draws used.
+use crate::gossip::Lent;
 use address::Address;
 use disseminate::Found;
 use heap::Heap;
@@ -340,19 +341,19 @@ pub fn turn(
     members: Members,
     own: Address,
     deceased: Heap,
-    rows: [Gossip; 64],
-    given: usize,
-    sender: Optional,
+    lent: Lent,
     i: usize,
     draws: &[u64],
     from: usize,
 ) -> Ruled
-    requires { ⌜ Held members × Packed deceased × (given ≤ 64) × (i ≤ given) × (every (validGossip ipv4) (map toGossip (take given rows)) ≡ true) × (calls.validOption ipv4 (toOptional sender) ≡ true) × (from ≤ length (now draws)) ⌝ }
-    ensures { λ r. ⌜ ((n : Node) → Decides n own members deceased (drop from (now (draws .entry))) r (ruleAt (map toGossip (take given rows)) (senderRule sender) i)) ⌝ }
+    requires { ⌜ Held members × Packed deceased × (length (lent .rows) ≡ 64) × (lent .given ≤ 64) × (i ≤ lent .given) × (every (validGossip ipv4) (map toGossip (take (lent .given) (lent .rows))) ≡ true) × (calls.validOption ipv4 (toOptional (lent .sender)) ≡ true) × (from ≤ length (now draws)) ⌝ }
+    ensures { λ r. ⌜ ((n : Node) → Decides n own members deceased (drop from (now (draws .entry))) r (ruleAt (map toGossip (take (lent .given) (lent .rows))) (senderRule (lent .sender)) i)) ⌝ }
 {
-    if i < given {
+    if i < lent.given {
+        let rows = lent.rows;
         return item(members, own, deceased, rows[i], draws, from);
     }
+    let sender = lent.sender;
     match sender {
         Optional::Absent => quiet(members),
         Optional::Given(a) => admit(members, own, deceased, a, draws, from),

@@ -29,7 +29,7 @@ whole s = let a = s .args in handler.gossip ipv4 (map toGossip (take (a .given) 
 keeps : (s : tie.Start) → After (λ (o : M.Out ℕ). Keeps ipv4 (viewNode (s .args .node)) (o .node)) (whole s)
 keeps s =
     let a = s .args in
-    gossip-keeps ipv4 ipv4-lawful (map toGossip (take (a .given) (a .rows))) (viewNode (a .node)) (a .draws .now) (s .pre .0 .good) (s .pre .2)
+    gossip-keeps ipv4 ipv4-lawful (map toGossip (take (a .given) (a .rows))) (viewNode (a .node)) (a .draws .now) (s .pre .0 .good) (s .pre .3)
 
 -- what was heard
 told : (c : tie.After-hear) → HeardAs (c .before .before .args .draws .now) (whole (c .before .before)) (c .hear .result)
@@ -40,7 +40,7 @@ acknowledge-requires c κs =
     let d = c .before in
     let h = d .before .before in
     let s = h .before .before in
-    (heard-ready (s .args .node) (s .args .draws .now) (whole s) (h .hear .result) (keeps s) (told h) _ (d .drew .given .1), s .pre .1)
+    (heard-ready (s .args .node) (s .args .draws .now) (whole s) (h .hear .result) (keeps s) (told h) _ (d .drew .given .1), s .pre .2)
 
 returns : tie.Need-returns
 unfolding handler.handle
@@ -50,7 +50,7 @@ returns c =
     let s = h .before .before in
     let a = s .args in
     c .acknowledge .ensures
-    ∙ acknowledged-is (a .node) (a .draws .now) (whole s) (h .hear .result) (d .drew .given .0 .0) (a .from) (a .rows) (a .given) (a .forward-to) (s .pre .3) (s .pre .1) (keeps s) (told h) (d .drew .given .1)
+    ∙ acknowledged-is (a .node) (a .draws .now) (whole s) (h .hear .result) (d .drew .given .0 .0) (a .from) (a .rows) (a .given) (a .forward-to) (s .pre .1) (s .pre .2) (keeps s) (told h) (d .drew .given .1)
 
 returns-2 : tie.Need-returns-2
 unfolding handler.handle
@@ -64,7 +64,7 @@ pub handle-ack-spec : {M : Type 1} → statement M
 handle-ack-spec =
     tie.close
     (tie.spec
-    (λ c κs. let p = c .before .pre in (p .0, p .1, p .2, refl))
+    (λ c κs. let p = c .before .pre in (p .0, p .1, p .2, p .3, refl))
     (λ c. search needs)
     acknowledge-requires
     (λ c. search needs)

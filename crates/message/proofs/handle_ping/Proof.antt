@@ -31,8 +31,8 @@ whole s = let a = s .args in M.andMore (handler.gossip ipv4 (map toGossip (take 
 keeps : (s : tie.Start) → After (λ (o : M.Out ℕ). Keeps ipv4 (viewNode (s .args .node)) (o .node)) (whole s)
 keeps s =
     let a = s .args in
-    more-keeps ipv4 ipv4-lawful (handler.admit ipv4 (a .from)) (gossip-keeps ipv4 ipv4-lawful (map toGossip (take (a .given) (a .rows))) (viewNode (a .node)) (a .draws .now) (s .pre .0 .good) (s .pre .2))
-    (λ m rest g. admit-keeps ipv4 ipv4-lawful (a .from) m rest g (s .pre .3))
+    more-keeps ipv4 ipv4-lawful (handler.admit ipv4 (a .from)) (gossip-keeps ipv4 ipv4-lawful (map toGossip (take (a .given) (a .rows))) (viewNode (a .node)) (a .draws .now) (s .pre .0 .good) (s .pre .3))
+    (λ m rest g. admit-keeps ipv4 ipv4-lawful (a .from) m rest g (s .pre .4))
 
 -- what was heard
 told : (c : tie.After-hear) → HeardAs (c .before .before .args .draws .now) (whole (c .before .before)) (c .hear .result)

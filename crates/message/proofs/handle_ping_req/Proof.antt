@@ -31,7 +31,7 @@ whole s = let a = s .args in handler.gossip ipv4 (map toGossip (take (a .given) 
 keeps : (s : tie.Start) → After (λ (o : M.Out ℕ). Keeps ipv4 (viewNode (s .args .node)) (o .node)) (whole s)
 keeps s =
     let a = s .args in
-    gossip-keeps ipv4 ipv4-lawful (map toGossip (take (a .given) (a .rows))) (viewNode (a .node)) (a .draws .now) (s .pre .0 .good) (s .pre .2)
+    gossip-keeps ipv4 ipv4-lawful (map toGossip (take (a .given) (a .rows))) (viewNode (a .node)) (a .draws .now) (s .pre .0 .good) (s .pre .3)
 
 -- what was heard
 told : (c : tie.After-hear) → HeardAs (c .before .before .args .draws .now) (whole (c .before .before)) (c .hear .result)
@@ -69,7 +69,7 @@ pub handle-ping-req-spec : {M : Type 1} → statement M
 handle-ping-req-spec =
     tie.close
     (tie.spec
-    (λ c κs. let p = c .before .pre in (p .0, p .1, p .2, refl))
+    (λ c κs. let p = c .before .pre in (p .0, p .1, p .2, p .3, refl))
     (λ c. search needs)
     (λ c κs. search needs)
     answer-requires

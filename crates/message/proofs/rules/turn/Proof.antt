@@ -24,41 +24,38 @@ use Rattle.message.proofs.rules.turn.Tie as tie
 abbrev there : tie.Start → Node → Node
 there s n = placed n (s .args .own) (s .args .members) (s .args .deceased)
 
-long : (s : tie.Start) → length (s .args .t4) ≡ 64
-long s = search needs
-
 -- it is the sender's turn
 last : (e : tie.Else1) (n : Node)
-    → let s = e .before .before in
+    → let s = e .before .before .before in
     let a = s .args in
     let ds = drop (a .from) (a .draws .now) in
-    ruleAt (map toGossip (take (a .given) (a .t4))) (senderRule (a .sender)) (a .i) (viewNode (there s n)) ds ≡ senderRule (a .sender) (viewNode (there s n)) ds
+    ruleAt (map toGossip (take (a .lent .given) (a .lent .rows))) (senderRule (a .lent .sender)) (a .i) (viewNode (there s n)) ds ≡ senderRule (a .lent .sender) (viewNode (there s n)) ds
 last e n =
-    let s = e .before .before in
+    let s = e .before .before .before in
     let a = s .args in
-    last-turn (a .t4) (a .given) (long s) (s .pre .2) (senderRule (a .sender)) (a .i) (e .if1 .left) (viewNode (there s n)) (drop (a .from) (a .draws .now))
+    last-turn (a .lent .rows) (a .lent .given) (s .pre .2) (s .pre .3) (senderRule (a .lent .sender)) (a .i) (e .if1 .left) (viewNode (there s n)) (drop (a .from) (a .draws .now))
 
 item-requires : tie.Need-item-requires
 item-requires c κs =
-    let t = c .before in
-    let s = t .before .before in
+    let t = c .before .before in
+    let s = t .before .before .before in
     let a = s .args in
-    (s .pre .0, s .pre .1, lent-valid (a .t4) (a .given) (long s) (s .pre .2) (a .i) (t .if1 .taken) (s .pre .4), s .pre .6)
+    (s .pre .0, s .pre .1, lent-valid (a .lent .rows) (a .lent .given) (s .pre .2) (s .pre .3) (a .i) (t .if1 .taken) (s .pre .5), s .pre .7)
 
 returns : tie.Need-returns
 returns c n ready =
-    let t = c .before .before in
-    let s = t .before .before in
+    let t = c .before .before .before in
+    let s = t .before .before .before in
     let a = s .args in
     let k = there s n in
     let ds = drop (a .from) (a .draws .now) in
-    c .item .ensures n ready ∙ sym (ap (carriedOf k ds) (record-turn (a .t4) (a .given) (long s) (s .pre .2) (senderRule (a .sender)) (a .i) (t .if1 .taken) (viewNode k) ds))
+    c .item .ensures n ready ∙ sym (ap (carriedOf k ds) (record-turn (a .lent .rows) (a .lent .given) (s .pre .2) (s .pre .3) (senderRule (a .lent .sender)) (a .i) (t .if1 .taken) (viewNode k) ds))
 
 returns-2 : tie.Need-returns-2
 returns-2 c n ready =
     let t = c .before in
     let e = t .before .before in
-    let s = e .before .before in
+    let s = e .before .before .before in
     let a = s .args in
     let k = there s n in
     let ds = drop (a .from) (a .draws .now) in
@@ -68,14 +65,14 @@ returns-2 c n ready =
 admit-requires : tie.Need-admit-requires
 admit-requires c κs =
     let t = c .before in
-    let s = t .before .before .before .before in
-    (s .pre .0, s .pre .1, sym (ap (λ (o : Optional). calls.validOption ipv4 (toOptional o)) (t .sender .given .1)) ∙ s .pre .5, s .pre .6)
+    let s = t .before .before .before .before .before in
+    (s .pre .0, s .pre .1, sym (ap (λ (o : Optional). calls.validOption ipv4 (toOptional o)) (t .sender .given .1)) ∙ s .pre .6, s .pre .7)
 
 returns-3 : tie.Need-returns-3
 returns-3 c n ready =
     let t = c .before .before in
     let e = t .before .before in
-    let s = e .before .before in
+    let s = e .before .before .before in
     let a = s .args in
     let k = there s n in
     let ds = drop (a .from) (a .draws .now) in
