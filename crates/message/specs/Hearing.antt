@@ -18,7 +18,7 @@ use Rattle.model.specs.Sound.{validGossip}
 use Rattle.model.specs.Handler as handler
 use Rattle.model.specs.Answers.{Answer, done, refused, andThen}
 use Rattle.model.specs.After.{After, gives}
-use Rattle.model.specs.Draws.{Leaves, leaves, rest-is, rest-le}
+use Rattle.model.specs.Draws.{Leaves, rest-is, rest-le}
 use Rattle.model.specs.IPv4.{ipv4, ipv4-lawful}
 use Rattle.model.specs.Words as W
 use Rattle.model.specs.Node as M

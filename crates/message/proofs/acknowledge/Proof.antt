@@ -2,7 +2,6 @@
 -- Assumes nothing.
 use mathlib.Core.Path.{_≡_, ap, sym, _∙_}
 use borrow.Author.Needs.{needs}
-use Rattle.types.specs.declared.Optional.{Optional}
 use Rattle.message.specs.Answers.{acknowledgedOf}
 use Rattle.message.proofs.acknowledge.Statement.{statement}
 use Rattle.message.proofs.acknowledge.Tie as tie

@@ -1,7 +1,7 @@
 -- `message::handle_ping` meets its contract: gossip, sender, choose, Ack.
 -- Assumes nothing.
-use mathlib.Core.Path.{_≡_, refl, ap, sym, _∙_}
-use mathlib.Core.List.{List, map}
+use mathlib.Core.Path.{_≡_, ap, _∙_}
+use mathlib.Core.List.{map}
 use Prim.Native.Nat.{ℕ}
 use lib.ListN.{take}
 use borrow.Author.Needs.{needs}
@@ -11,11 +11,8 @@ use Rattle.model.specs.After.{After}
 use Rattle.model.specs.Node as M
 use Rattle.model.specs.Handler as handler
 use Rattle.model.specs.Keeps.{Keeps, gossip-keeps, admit-keeps, more-keeps}
-use Rattle.types.specs.declared.Gossip.{Gossip}
 use Rattle.types.specs.Views.{toGossip}
-use Rattle.node.specs.declared.Node.{Node}
 use Rattle.node.specs.Views.{viewNode}
-use Rattle.message.specs.declared.gossip.Heard.{Heard}
 use Rattle.message.specs.Views.{HeardAs}
 use Rattle.message.specs.Outcomes.{heard-ready, refused-heard, answered-is}
 use Rattle.types.specs.declared.Action.{Action}

@@ -18,14 +18,13 @@ use Rattle.model.specs.Handler as handler
 use Rattle.types.specs.declared.Gossip.{Gossip}
 use Rattle.types.specs.declared.Optional.{Optional}
 use Rattle.types.specs.Views.{toGossip}
-use Rattle.order.specs.declared.Drew.{Drew}
 use Rattle.order.specs.declared.Drew.the-variants.{Used}
 use Rattle.node.specs.declared.Node.{Node}
 use Rattle.node.specs.Views.{viewNode}
 use Rattle.message.specs.declared.gossip.Heard.{Heard}
 use Rattle.message.specs.declared.gossip.Report.{Report}
-use Rattle.message.specs.Views.{Carried, carried, senderRule, ruleAt, isLiving, isDead, isTold, roomed, pushedTo, noted}
-use Rattle.message.specs.Hearing.{Sofar, ahead, after, told-too, sofar-start, sofar-next, sofar-over, sofar-refused, sofar-more, sofar-ends, sofar-drew, sofar-same, noted-few, lent-long, turn-sure, carried-drew, carried-noted}
+use Rattle.message.specs.Views.{carried, senderRule, ruleAt, isLiving, isDead, isTold, pushedTo, noted}
+use Rattle.message.specs.Hearing.{Sofar, ahead, told-too, sofar-start, sofar-next, sofar-over, sofar-refused, sofar-more, sofar-ends, sofar-drew, sofar-same, noted-few, lent-long, turn-sure, carried-drew, carried-noted}
 use Rattle.message.proofs.gossip.hear.Statement.{statement}
 use Rattle.message.proofs.gossip.hear.Tie as tie
 

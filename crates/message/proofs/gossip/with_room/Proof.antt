@@ -1,10 +1,8 @@
 -- `message::gossip::with_room` meets its contract: refused before, not for this heap, full, or not.
 -- Assumes nothing.
-use mathlib.Core.Path.{_≡_, ap, sym, _∙_}
+use mathlib.Core.Path.{_≡_}
 use borrow.Author.Needs.{needs}
 use borrow.Author.Tests.{not-true, not-false, le-leb, lt-leb}
-use Rattle.order.specs.declared.Drew.{Drew}
-use Rattle.message.specs.Views.{roomed}
 use Rattle.message.proofs.gossip.with_room.Statement.{statement}
 use Rattle.message.proofs.gossip.with_room.Tie as tie
 

@@ -1,6 +1,6 @@
 -- `message::rules::admit` meets its contract: listed, or D decides the number.
 -- Assumes nothing.
-use mathlib.Core.Path.{_≡_, refl, ap, sym, _∙_}
+use mathlib.Core.Path.{_≡_, ap, sym, _∙_}
 use lib.ListN.{drop}
 use borrow.Author.Needs.{needs}
 use Rattle.model.specs.IPv4.{ipv4}

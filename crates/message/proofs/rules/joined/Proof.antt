@@ -1,6 +1,6 @@
 -- `message::rules::joined` meets its contract: D decides the number.
 -- Assumes nothing.
-use mathlib.Core.Path.{_≡_, refl, ap, sym, _∙_}
+use mathlib.Core.Path.{_≡_, ap, sym, _∙_}
 use Prim.Native.Nat.{ℕ, max}
 use lib.ListN.{drop}
 use borrow.Author.Needs.{needs}

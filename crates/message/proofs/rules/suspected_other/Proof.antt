@@ -1,6 +1,6 @@
 -- `message::rules::suspected_other` meets its contract: listed and believed, or nothing.
 -- Assumes nothing.
-use mathlib.Core.Path.{_≡_, refl, ap, sym, _∙_}
+use mathlib.Core.Path.{_≡_, ap, sym, _∙_}
 use borrow.Author.Needs.{needs}
 use borrow.Author.Tests.{not-true, not-false}
 use Rattle.model.specs.IPv4.{ipv4}

@@ -1,16 +1,11 @@
 -- `message::rules::turn` meets its contract: a record, or the sender.
 -- Assumes nothing.
 use mathlib.Core.Path.{_≡_, ap, sym, _∙_}
-use mathlib.Core.List.{List, map}
-use Prim.Native.Nat.{ℕ, _≤_}
-use native.Mathlib.Omega.{arith}
-use lib.ListN.{length, take, drop}
+use mathlib.Core.List.{map}
+use lib.ListN.{take, drop}
 use borrow.Author.Needs.{needs}
 use Rattle.model.specs.IPv4.{ipv4}
-use Rattle.model.specs.Answers.{Answer}
-use Rattle.model.specs.Node as M
 use Rattle.model.specs.Calls as calls
-use Rattle.types.specs.declared.Gossip.{Gossip}
 use Rattle.types.specs.declared.Optional.{Optional}
 use Rattle.types.specs.Views.{toGossip, toOptional}
 use Rattle.node.specs.declared.Node.{Node}
