@@ -57,12 +57,19 @@ fn no_gossip() -> [Gossip; Received::GOSSIP]
     [nothing; Received::GOSSIP]
 }
 
-// A refusal: the node as it came, nothing sent and nothing reported.
+// A refusal: the node as it came, nothing sent and nothing reported. Made in one piece, since an answer beside it would be a node more on the stack.
 fn refused(node: Node, refusal: Refusal) -> Received
     ensures { λ r. ⌜ r ≡ refusedReceived node refusal ⌝ }
 {
+    let none = Letter::none();
+    let letters = [none; Answer::LETTERS];
     Received {
-        answer: Answer::refused(refusal, node),
+        answer: Answer {
+            reply: Reply::Refused(refusal),
+            node,
+            letters,
+            sent: 0,
+        },
         gossip: no_gossip(),
         written: 0,
         events: gossip::no_events(),
