@@ -2,7 +2,6 @@
 -- Assumes nothing.
 use mathlib.Core.Path.{_≡_}
 use mathlib.Core.List.{List, [], _∷_, _++_, map}
-use mathlib.Core.Option.{Option, none, some}
 use Prim.Native.Nat.{ℕ, _-_}
 use lib.ListN.{length, take, replicate, set}
 use Rattle.model.specs.declared.Refusal.{Refusal}
@@ -16,10 +15,9 @@ use Rattle.model.specs.Calls as calls
 use Rattle.types.specs.declared.Gossip.{Gossip}
 use Rattle.types.specs.declared.Action.{Action}
 use Rattle.types.specs.declared.Action.the-variants as action
-use Rattle.types.specs.declared.Optional.the-variants.{Absent}
+use Rattle.types.specs.declared.Optional.{Optional}
+use Rattle.types.specs.declared.Optional.the-variants.{Absent, Given}
 use Rattle.types.specs.Views.{toGossip, fromGossip, noGossip}
-use Rattle.order.specs.declared.Drew.{Drew}
-use Rattle.order.specs.declared.Drew.the-variants.{Used, Refused}
 use Rattle.node.specs.declared.Node.{Node}
 use Rattle.node.specs.declared.Letter.{Letter}
 use Rattle.node.specs.declared.Answer.{Answer}
@@ -37,8 +35,8 @@ abbrev pub refusedReceived : Node → Refusal → Received
 refusedReceived n r = record { answer = plainAnswer (reply.Refused r) n; gossip = noRows; written = 0; events = replicate 65 noGossip; reported = 0 }
 
 -- one message goes out with gossip chosen for it
-abbrev pub answeredBy : Drew → Node → Heard → ℕ → Action → Received
-answeredBy (Used used) n h target a =
+abbrev pub answeredOf : ℕ → Heard → ℕ → Action → Received
+answeredOf used h target a =
     let c = spreadOf (M.spread ipv4 (viewNode (h .node))) in
     record {
       answer = oneLetter used (c .node) (record { target = target; action = a; count = c .count });
@@ -47,14 +45,10 @@ answeredBy (Used used) n h target a =
       events = h .events;
       reported = h .reported;
     }
-answeredBy (Refused r) n h target a = refusedReceived n r
-
-abbrev pub answeredOf : Node → Heard → ℕ → Action → Received
-answeredOf n h target a = answeredBy (h .drew) n h target a
 
 -- an Ack's sender is Alive
-abbrev pub settledBy : Drew → Node → Heard → ℕ → Received
-settledBy (Used used) n h from =
+abbrev pub settledOf : ℕ → Heard → ℕ → Received
+settledOf used h from =
     record {
       answer = plainAnswer (reply.Done used) (packNode (handler.acked ipv4 from (viewNode (h .node))));
       gossip = noRows;
@@ -62,14 +56,10 @@ settledBy (Used used) n h from =
       events = h .events;
       reported = h .reported;
     }
-settledBy (Refused r) n h from = refusedReceived n r
-
-abbrev pub settledOf : Node → Heard → ℕ → Received
-settledOf n h from = settledBy (h .drew) n h from
 
 -- an Ack goes on
-abbrev pub forwardedBy : Drew → Node → Heard → ℕ → ℕ → List Gossip → ℕ → Received
-forwardedBy (Used used) n h from to rows given =
+abbrev pub forwardedOf : ℕ → Heard → ℕ → ℕ → List Gossip → ℕ → Received
+forwardedOf used h from to rows given =
     record {
       answer = oneLetter used (h .node) (record { target = to; action = action.Ack from Absent; count = given });
       gossip = padTo 64 noGossip (take given rows);
@@ -77,10 +67,10 @@ forwardedBy (Used used) n h from to rows given =
       events = h .events;
       reported = h .reported;
     }
-forwardedBy (Refused r) n h from to rows given = refusedReceived n r
 
-abbrev pub forwardedOf : Node → Heard → ℕ → ℕ → List Gossip → ℕ → Received
-forwardedOf n h from to rows given = forwardedBy (h .drew) n h from to rows given
+abbrev pub acknowledgedOf : ℕ → Heard → ℕ → List Gossip → ℕ → Optional → Received
+acknowledgedOf used h from rows given Absent = settledOf used h from
+acknowledgedOf used h from rows given (Given to) = forwardedOf used h from to rows given
 
 -- the outcome of a message call
 unfoldable pub receivedOf : calls.Outcome ℕ → Received

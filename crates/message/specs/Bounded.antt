@@ -2,16 +2,16 @@
 -- Assumes nothing.
 use mathlib.Core.Path.{_≡_, ap, _∙_}
 use mathlib.Core.Bool.{true}
-use mathlib.Core.List.{List, [], _∷_, _++_}
-use mathlib.Core.Option.{Option, none, some}
+use mathlib.Core.List.{List, []}
+use mathlib.Core.Option.{none, some}
 use Prim.Native.Nat.{ℕ, _≤_}
 use native.Mathlib.Omega.{arith}
 use lib.ListN.{length, length-append}
 use Rattle.model.specs.declared.Refusal.{Refusal}
 use Rattle.model.specs.Rows.{every}
 use Rattle.model.specs.Bools.{and-split}
-use Rattle.model.specs.Answers.{Answer, done, refused, andThen}
-use Rattle.model.specs.After.{After, halts, gives, after-then, after-both}
+use Rattle.model.specs.Answers.{Answer, done, refused}
+use Rattle.model.specs.After.{After, gives, after-then, after-both}
 use Rattle.model.specs.IPv4.{ipv4, ipv4-lawful}
 use Rattle.model.specs.Words as W
 use Rattle.model.specs.Limit.{limitOf}
@@ -21,7 +21,7 @@ use Rattle.model.specs.Node as M
 use Rattle.model.specs.Handler as handler
 use Rattle.model.specs.Sound.{validGossip}
 use Rattle.model.specs.Good.{Good, ranges}
-use Rattle.model.specs.Keeps.{gossip-keeps, admit-keeps, more-keeps}
+use Rattle.model.specs.Keeps.{gossip-keeps, admit-keeps}
 use Rattle.model.specs.Calls as calls
 use Rattle.node.specs.declared.Node.{Node}
 use Rattle.message.specs.declared.Received.{Received}

@@ -46,11 +46,11 @@ module _ {A : Type 0} (address : Address A) where
   unfolding emitDeceased pushed
   deceased-emit-few g s ds = after-then {P = λ _. Unit {0}} (after-when (λ _. halts) (λ _. gives tt)) (λ h rest _. gives (omega arith))
 
-  quiet-leaves : (s : Node A) (ds : List ℕ) → Leaves ds (quiet s ds)
+  pub quiet-leaves : (s : Node A) (ds : List ℕ) → Leaves ds (quiet s ds)
   unfolding quiet
   quiet-leaves s ds = leaves-all ds
 
-  quiet-few : (s : Node A) (ds : List ℕ) → Few (quiet s ds)
+  pub quiet-few : (s : Node A) (ds : List ℕ) → Few (quiet s ds)
   unfolding quiet
   quiet-few s ds = gives {b = record { node = s; said = [] }} (omega arith)
 
@@ -89,11 +89,6 @@ module _ {A : Type 0} (address : Address A) where
   pub admit-few : (a : A) (s : Node A) (ds : List ℕ) → Few (admit address a s ds)
   unfolding admit
   admit-few a s ds = after-when (λ _. quiet-few s ds) (λ _. after-death _ (λ n. enter-few a n s ds))
-
-  pub gossip-leaves : (gs : List (Gossip A)) (s : Node A) (ds : List ℕ) → Leaves ds (gossip address gs s ds)
-  unfolding andMore
-  gossip-leaves [] s ds = quiet-leaves s ds
-  gossip-leaves (g ∷ gs) s ds = leaves-then (item-leaves (g .event) s ds) (λ o rest. leaves-then (gossip-leaves gs (o .node) rest) (λ p rest₂. leaves-all rest₂))
 
   -- no more events than records
   pub gossip-few : (gs : List (Gossip A)) (s : Node A) (ds : List ℕ) → After (λ o. length (o .said) ≤ length gs) (gossip address gs s ds)

@@ -1,13 +1,13 @@
 -- An address comes in: what the list's answer makes of the rule.
 -- Assumes nothing.
-use mathlib.Core.Path.{_≡_, refl, ap, sym, _∙_}
-use mathlib.Core.List.{List, [], _∷_}
+use mathlib.Core.Path.{_≡_, ap, sym}
+use mathlib.Core.List.{List}
 use Prim.Native.Nat.{ℕ, _-_}
 use native.Mathlib.Omega.{arith}
 use lib.ListN.{length}
 use Rattle.model.specs.declared.Refusal.{Refusal}
 use Rattle.model.specs.Answers.{Answer, done, refused, andThen}
-use Rattle.model.specs.After.{After, halts, gives}
+use Rattle.model.specs.After.{After, gives}
 use Rattle.model.specs.IPv4.{ipv4}
 use Rattle.model.specs.Words as W
 use Rattle.model.specs.Members as list
@@ -21,11 +21,10 @@ use Rattle.order.specs.Views.{drewOf}
 use Rattle.member.specs.declared.Members.{Members}
 use Rattle.member.specs.Views.{keptMembers}
 use Rattle.node.specs.declared.Node.{Node}
-use Rattle.node.specs.declared.parts.Emitted.{Emitted}
-use Rattle.node.specs.Views.{viewNode, withMembers, emittedOf}
-use Rattle.node.specs.Rows.{Ready, ready-pack}
+use Rattle.node.specs.Views.{viewNode, withMembers, withHeaps}
+use Rattle.node.specs.Rows.{Ready}
 use Rattle.node.specs.Parts.{part-members}
-use Rattle.message.specs.Views.{stoppedRuled, reportedAs, ruledOf}
+use Rattle.message.specs.Views.{stops, emits, pushedTo, carriedOf}
 use Rattle.message.specs.Ruling.{alive-ruled}
 
 isUsed : Drew → ℕ
@@ -33,23 +32,16 @@ isUsed (Used k) = 1
 isUsed (Refused r) = 0
 
 module _ (n : Node) (r : Ready n) (ds : List ℕ) where
-  pub enter-used : (x : Answer (list.Members ℕ)) (used : ℕ) (m : Members) (n′ : Node) (g : Gossip) (mg : W.Gossip ℕ) (e : Emitted)
-      → After (λ l. Keeps ipv4 (viewNode n) (M.withMembers (viewNode n) l)) x → drewOf (length ds) x ≡ Used used → m ≡ keptMembers (n .members) x → n′ ≡ withMembers n m
-      → toGossip g ≡ mg → e ≡ emittedOf n′ (M.emitAlive ipv4 (toGossip g) (viewNode n′) [])
-      → reportedAs n e g used ≡ ruledOf n ds (andThen x λ l rest. M.emitAlive ipv4 mg (M.withMembers (viewNode n) l) rest)
+  pub enter-used : (x : Answer (list.Members ℕ)) (used : ℕ) (m : Members) (g : Gossip) (mg : W.Gossip ℕ)
+      → After (λ l. Keeps ipv4 (viewNode n) (M.withMembers (viewNode n) l)) x → drewOf (length ds) x ≡ Used used → m ≡ keptMembers (n .members) x → toGossip g ≡ mg
+      → emits (n .alive .len) n (withHeaps (withMembers n m) (pushedTo (n .alive) g) (n .deceased)) g used ≡ carriedOf n ds (andThen x λ l rest. M.emitAlive ipv4 mg (M.withMembers (viewNode n) l) rest)
   unfolding isUsed
-  enter-used (refused u) used m n′ g mg e k d q is says p = let z : _≡_ {A = ℕ} 0 1 = ap isUsed d in absurd (omega arith)
-  enter-used (done l rest) used m n′ g mg e (gives k) d q is says p =
+  enter-used (refused u) used m g mg k d q says = let z : _≡_ {A = ℕ} 0 1 = ap isUsed d in absurd (omega arith)
+  enter-used (done l rest) used m g mg (gives k) d q says =
       let w : _≡_ {A = ℕ} (length ds - length rest) used = cc in
-      alive-ruled n n′ (M.withMembers (viewNode n) l) (is ∙ part-members n r l m q) (k .good) g mg says e ds rest used (sym w) p
+      alive-ruled n m (M.withMembers (viewNode n) l) (part-members n r l m q) (k .good) g mg says ds rest used (sym w)
 
-  pub enter-ready : (x : Answer (list.Members ℕ)) (used : ℕ) (m : Members) → After (λ l. Keeps ipv4 (viewNode n) (M.withMembers (viewNode n) l)) x → drewOf (length ds) x ≡ Used used
-      → m ≡ keptMembers (n .members) x → Ready (withMembers n m)
+  pub enter-refused : (x : Answer (list.Members ℕ)) (u : Refusal) (f : list.Members ℕ → List ℕ → Answer (M.Out ℕ)) → drewOf (length ds) x ≡ Refused u → stops n u ≡ carriedOf n ds (andThen x f)
   unfolding isUsed
-  enter-ready (refused u) used m k d q = let z : _≡_ {A = ℕ} 0 1 = ap isUsed d in absurd (omega arith)
-  enter-ready (done l rest) used m (gives k) d q = rw (part-members n r l m q) (ready-pack (M.withMembers (viewNode n) l) (k .good))
-
-  pub enter-refused : (x : Answer (list.Members ℕ)) (u : Refusal) (f : list.Members ℕ → List ℕ → Answer (M.Out ℕ)) → drewOf (length ds) x ≡ Refused u → stoppedRuled n u ≡ ruledOf n ds (andThen x f)
-  unfolding isUsed
-  enter-refused (refused w) u f d = let z : w ≡ u = cc in ap (stoppedRuled n) (sym z)
+  enter-refused (refused w) u f d = let z : w ≡ u = cc in ap (stops n) (sym z)
   enter-refused (done l rest) u f d = let z : _≡_ {A = ℕ} 1 0 = ap isUsed d in absurd (omega arith)

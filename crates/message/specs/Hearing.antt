@@ -7,35 +7,43 @@ use Prim.Native.Nat.{ℕ, zero, suc, _+_, _-_, _≤_, _<_}
 use native.Mathlib.Omega.{arith}
 use native.Mathlib.Numerals.{add-one}
 use native.Mathlib.Nat.{not-suc-le-zero, le-of-suc-le-suc}
-use lib.ListN.{length, getD, set, take, drop, replicate, length-append, length-drop, length-map, drop-of-length-le, List·getD-map}
-use lib.Seq.{drop-cons, length-take-le, getD-take}
-use lib.Dec.{eqb}
+use lib.ListN.{length, getD, set, take, drop, replicate, length-append, length-drop, length-map, List·getD-map}
+use lib.Seq.{length-take-le, getD-take}
+use lib.Dec.{eqb, leb}
 use Rattle.model.specs.declared.Refusal.{Refusal}
+use Rattle.model.specs.declared.Refusal.the-variants.{HeapFull}
 use Rattle.model.specs.Rows.{pick, padTo, every}
 use Rattle.model.specs.Bools.{and-split}
 use Rattle.model.specs.Sound.{validGossip}
 use Rattle.model.specs.Handler as handler
 use Rattle.model.specs.Answers.{Answer, done, refused, andThen}
-use Rattle.model.specs.After.{After, gives, given}
-use Rattle.model.specs.Draws.{Leaves, leaves, rest-is, rest-le}
-use Rattle.model.specs.IPv4.{ipv4}
+use Rattle.model.specs.After.{After, gives}
+use Rattle.model.specs.Draws.{Leaves, rest-is, rest-le}
+use Rattle.model.specs.IPv4.{ipv4, ipv4-lawful}
 use Rattle.model.specs.Words as W
 use Rattle.model.specs.Node as M
-use Rattle.model.specs.Keeps.{Keeps}
+use Rattle.model.specs.Good.{Good}
+use Rattle.model.specs.Keeps.{Keeps, same-node, item-keeps, admit-keeps}
+use Rattle.model.specs.Calls as calls
 use Rattle.model.specs.Packing.{PackedRow, viewRow, packRow, view-pack, pack-view, view-length, packed-pack, pack-more}
 use Rattle.types.specs.declared.Gossip.{Gossip}
-use Rattle.types.specs.Views.{toGossip, toEvent, fromGossip, noGossip, to-from-gossip, from-to-gossip}
+use Rattle.types.specs.declared.Optional.{Optional}
+use Rattle.types.specs.declared.Optional.the-variants as optional
+use Rattle.types.specs.Views.{toGossip, toEvent, toOptional, fromGossip, noGossip, to-from-gossip, from-to-gossip}
 use Rattle.order.specs.declared.Drew.{Drew}
 use Rattle.order.specs.declared.Drew.the-variants.{Used, Refused}
+use Rattle.member.specs.declared.Members.{Members}
 use Rattle.node.specs.declared.Node.{Node}
-use Rattle.node.specs.Views.{viewNode, packNode}
+use Rattle.node.specs.Views.{viewNode, packNode, withMembers, withHeaps}
 use Rattle.node.specs.Rows.{Ready, ready-pack}
 use Rattle.node.specs.Rows as nodes
 use Rattle.node.specs.Parts.{ready-is}
-use Rattle.message.specs.declared.rules.Ruled.{Ruled}
+use Rattle.message.specs.declared.rules.Told.{Told}
+use Rattle.message.specs.declared.rules.Told.the-variants.{Nothing, Living, Dead}
 use Rattle.message.specs.declared.gossip.Heard.{Heard}
-use Rattle.message.specs.Views.{ruledOf, firstSaid, heardOf, notedOf, refusedHeard, finishedBy, finishedOf}
-use Rattle.message.specs.Drawn.{Few}
+use Rattle.message.specs.declared.gossip.Report.{Report}
+use Rattle.message.specs.Views.{Rule, Carried, carriedBy, carriedOf, stops, firstSaid, HeardAs, notedOf, ruleAt, senderRule, isLiving, isDead, isTold, roomed, drewAfter, pushedTo, noted}
+use Rattle.message.specs.Drawn.{Few, quiet-few, quiet-leaves, item-few, item-leaves, admit-few, admit-leaves}
 
 -- what was said before, and then an answer
 abbrev pub prepend : List (W.Gossip ℕ) → Answer (M.Out ℕ) → Answer (M.Out ℕ)
@@ -74,19 +82,18 @@ module _ (whole : Answer (M.Out ℕ)) (draws : List ℕ) where
 
   -- one rule more, and what is ahead of it
   module _ (h : Heard) (used : ℕ) (rule : M.Node ℕ → List ℕ → Answer (M.Out ℕ)) (ahead : M.Node ℕ → List ℕ → Answer (M.Out ℕ)) (room : h .reported < 65)
-      (s : Sofar whole (λ m ds. M.andMore (rule m ds) ahead) draws used h) (r : Ruled) (is : r ≡ ruledOf (h .node) (drop used draws) (rule (viewNode (h .node)) (drop used draws))) where
+      (s : Sofar whole (λ m ds. M.andMore (rule m ds) ahead) draws used h) (r : Carried) (is : r ≡ carriedOf (h .node) (drop used draws) (rule (viewNode (h .node)) (drop used draws))) where
     abbrev x : Answer (M.Out ℕ)
     x = rule (viewNode (h .node)) (drop used draws)
 
-    refused-ends : (y : Answer (M.Out ℕ)) (u : Refusal) → x ≡ y → ruledOf (h .node) (drop used draws) y .drew ≡ Refused u → whole ≡ refused u
+    refused-ends : (y : Answer (M.Out ℕ)) (u : Refusal) → x ≡ y → carriedOf (h .node) (drop used draws) y .drew ≡ Refused u → whole ≡ refused u
     unfolding M.andMore isUsed
     refused-ends (refused w) u e d = let z : w ≡ u = cc in s .whole ∙ ap (λ (v : Answer (M.Out ℕ)). prepend (saidIn h) (M.andMore v ahead)) e ∙ ap refused z
     refused-ends (done o rest) u e d = let z : _≡_ {A = ℕ} 1 0 = ap isUsed d in absurd (omega arith)
 
     -- the rule was refused, and so is the whole
-    pub sofar-refused : (n : Node) (u : Refusal) → r .drew ≡ Refused u
-        → _≡_ {A = Heard} (record { node = n; events = replicate 65 noGossip; reported = 0; drew = Refused u }) (heardOf n draws whole)
-    sofar-refused n u d = sym (ap (heardOf n draws) (refused-ends x u refl (ap (λ (v : Ruled). v .drew) (sym is) ∙ d)))
+    pub sofar-refused : (u : Refusal) (k : Heard) → r .drew ≡ Refused u → k .drew ≡ Refused u → HeardAs draws whole k
+    sofar-refused u k d e = rw (refused-ends x u refl (ap (λ (v : Carried). v .drew) (sym is) ∙ d)) e
 
     -- the events with one more, or as they were
     more-events : (said : List (W.Gossip ℕ)) → length said ≤ 1 → (g : Gossip) → g ≡ firstSaid said
@@ -109,11 +116,11 @@ module _ (whole : Answer (M.Out ℕ)) (draws : List ℕ) where
     shift said more (done p rest) = λ i. done (record { node = p .node; said = sym (append-assoc said more (p .said)) i }) rest
 
     used-goes : (y : Answer (M.Out ℕ)) (more : ℕ) (h′ : Heard) → x ≡ y → After (λ o. Keeps ipv4 (viewNode (h .node)) (o .node)) y → Few y → Leaves (drop used draws) y
-        → r ≡ ruledOf (h .node) (drop used draws) y → h′ ≡ notedOf h r → h′ .drew ≡ Used more → Sofar whole ahead draws (used + more) h′
+        → r ≡ carriedOf (h .node) (drop used draws) y → h′ ≡ notedOf h r → h′ .drew ≡ Used more → Sofar whole ahead draws (used + more) h′
     unfolding M.andMore isUsed
-    used-goes (refused w) more h′ e k f l is′ noted d = let z : _≡_ {A = ℕ} 0 1 = ap isUsed (ap (λ (v : Ruled). v .drew) (sym is′) ∙ ap (λ (v : Heard). v .drew) (sym noted) ∙ d) in absurd (omega arith)
+    used-goes (refused w) more h′ e k f l is′ noted d = let z : _≡_ {A = ℕ} 0 1 = ap isUsed (ap (λ (v : Carried). v .drew) (sym is′) ∙ ap (λ (v : Heard). v .drew) (sym noted) ∙ d) in absurd (omega arith)
     used-goes (done o rest) more h′ e (gives k) (gives f) l is′ noted d =
-        let c : h′ ≡ notedOf h (ruledOf (h .node) (drop used draws) (done o rest)) = noted ∙ ap (notedOf h) is′ in
+        let c : h′ ≡ notedOf h (carriedOf (h .node) (drop used draws) (done o rest)) = noted ∙ ap (notedOf h) is′ in
         let w : length (drop used draws) - length rest ≡ more = let z : _≡_ {A = Drew} (Used (length (drop used draws) - length rest)) (Used more) = ap (λ (v : Heard). v .drew) (sym c) ∙ d in cc in
         let b = more-events (o .said) f (firstSaid (o .said)) refl in
         let ln : length (drop used draws) ≡ length draws - used = length-drop used draws in
@@ -139,24 +146,42 @@ module _ (whole : Answer (M.Out ℕ)) (draws : List ℕ) where
     sofar-more more h′ k f l noted d = used-goes x more h′ refl k f l is noted d
 
   -- all is heard
-  pub sofar-ends : (n : Node) (h : Heard) (used : ℕ) → Sofar whole (λ m ds. M.quiet m ds) draws used h
-      → _≡_ {A = Heard} (record { node = h .node; events = h .events; reported = h .reported; drew = Used used }) (heardOf n draws whole)
+  pub sofar-ends : (h : Heard) (used : ℕ) → Sofar whole M.quiet draws used h → HeardAs draws whole (record { node = h .node; events = h .events; reported = h .reported; drew = Used used })
   unfolding M.quiet
-  sofar-ends n h used s =
+  sofar-ends h used s =
       let e : saidIn h ++ [] ≡ saidIn h = append-nil (saidIn h) in
       let ev : h .events ≡ padTo 65 noGossip (map fromGossip (saidIn h ++ [])) = sym (ap (λ (l : List (W.Gossip ℕ)). padTo 65 noGossip (map fromGossip l)) e ∙ pack-view toGossip fromGossip from-to-gossip 65 noGossip (h .events) (h .reported) (s .row)) in
       let rp : h .reported ≡ length (saidIn h ++ []) = sym (ap length e ∙ view-length toGossip fromGossip from-to-gossip 65 noGossip (h .events) (h .reported) (s .row)) in
       let us : used ≡ length draws - length (drop used draws) = omega (arith, length-drop used draws, s .within) in
-      (λ i. record { node = sym (ready-is (h .node) (s .ready)) i; events = ev i; reported = rp i; drew = Used (us i) }) ∙ sym (ap (heardOf n draws) (s .whole))
+      rw (s .whole) (λ i. record { node = sym (ready-is (h .node) (s .ready)) i; events = ev i; reported = rp i; drew = Used (us i) })
 
--- a record more at most is reported
-pub noted-more : (h : Heard) (r : Ruled) → notedOf h r .reported ≤ h .reported + 1
-noted-more h r = elim (eqb (r .told) 0) as (λ u. pick u (h .reported) (h .reported + 1) ≤ h .reported + 1) [ true ↦ omega arith | false ↦ omega arith ]
+-- what counts of it are the node and the events
+pub sofar-drew : (all : Answer (M.Out ℕ)) (ahead : Rule) (draws : List ℕ) (used : ℕ) (h : Heard) (d : Drew) → Sofar all ahead draws used h
+    → Sofar all ahead draws used (record { node = h .node; events = h .events; reported = h .reported; drew = d })
+sofar-drew all ahead draws used h d s = record { ready = s .ready; row = s .row; within = s .within; whole = s .whole }
+
+pub sofar-same : (all : Answer (M.Out ℕ)) (ahead : Rule) (draws : List ℕ) (used : ℕ) (h k : Heard) → k ≡ h → Sofar all ahead draws used h → Sofar all ahead draws used k
+sofar-same all ahead draws used h k e s = rw e s
+
+pub noted-few : (r : Report) (g : Gossip) (told : Bool) → noted r g told .count ≤ r .count + 1
+noted-few r g true = omega arith
+noted-few r g false = omega arith
 
 every-at : (f : W.Gossip ℕ → Bool) (d : W.Gossip ℕ) (l : List (W.Gossip ℕ)) (i : ℕ) → i < length l → every f l ≡ true → f (getD l i d) ≡ true
 every-at f d [] i h e = absurd (not-suc-le-zero h)
 every-at f d (x ∷ l) zero h e = and-split (f x) (every f l) e .0
 every-at f d (x ∷ l) (suc i) h e = every-at f d l i (le-of-suc-le-suc h) (and-split (f x) (every f l) e .1)
+
+-- whose turn it is
+at-record : (last : Rule) (gs : List (W.Gossip ℕ)) (i : ℕ) (d : W.Gossip ℕ) → i < length gs → (m : M.Node ℕ) (ds : List ℕ) → ruleAt gs last i m ds ≡ handler.item ipv4 (getD gs i d .event) m ds
+at-record last [] i d h m ds = absurd (not-suc-le-zero h)
+at-record last (g ∷ gs) zero d h m ds = refl
+at-record last (g ∷ gs) (suc i) d h m ds = at-record last gs i d (le-of-suc-le-suc h) m ds
+
+at-last : (last : Rule) (gs : List (W.Gossip ℕ)) (i : ℕ) → length gs ≤ i → (m : M.Node ℕ) (ds : List ℕ) → ruleAt gs last i m ds ≡ last m ds
+at-last last [] i h m ds = refl
+at-last last (g ∷ gs) zero h m ds = absurd (not-suc-le-zero h)
+at-last last (g ∷ gs) (suc i) h m ds = at-last last gs i (le-of-suc-le-suc h) m ds
 
 -- The first n of a row of records
 module _ (rows : List Gossip) (n : ℕ) (long : length rows ≡ 64) (few : n ≤ 64) where
@@ -172,77 +197,109 @@ module _ (rows : List Gossip) (n : ℕ) (long : length rows ≡ 64) (few : n ≤
   pub lent-valid : (i : ℕ) → i < n → every (validGossip ipv4) lent ≡ true → validGossip ipv4 (toGossip (getD rows i noGossip)) ≡ true
   lent-valid i h e = ap (validGossip ipv4) (sym (lent-at i h)) ∙ every-at (validGossip ipv4) (toGossip noGossip) lent i (omega (arith, lent-long)) e
 
-  -- the next record, and those behind it
-  pub lent-next : (all : Answer (M.Out ℕ)) (draws : List ℕ) (used i : ℕ) (h : Heard) → i < n → Sofar all (λ m ds. handler.gossip ipv4 (drop i lent) m ds) draws used h
-      → Sofar all (λ m ds. M.andMore (handler.item ipv4 (toEvent (getD rows i noGossip .event)) m ds) (λ m′ ds′. handler.gossip ipv4 (drop (i + 1) lent) m′ ds′)) draws used h
-  lent-next all draws used i h k s =
-      let e : drop i lent ≡ toGossip (getD rows i noGossip) ∷ drop (i + 1) lent =
-      drop-cons lent i (toGossip noGossip) (omega (arith, lent-long)) ∙ ap (λ (g : W.Gossip ℕ). g ∷ drop (suc i) lent) (lent-at i k) ∙ ap (λ (j : ℕ). toGossip (getD rows i noGossip) ∷ drop j lent) (sym (add-one i)) in
-      record {
-        ready = s .ready;
-        row = s .row;
-        within = s .within;
-        whole = s .whole ∙ ap (λ (l : List (W.Gossip ℕ)). prepend (saidIn h) (handler.gossip ipv4 l (viewNode (h .node)) (drop used draws))) e;
-      }
+  -- a record's turn, and the sender's behind them
+  pub record-turn : (last : Rule) (i : ℕ) → i < n → (m : M.Node ℕ) (ds : List ℕ) → ruleAt lent last i m ds ≡ handler.item ipv4 (toEvent (getD rows i noGossip .event)) m ds
+  record-turn last i h m ds = at-record last lent i (toGossip noGossip) (omega (arith, lent-long)) m ds ∙ ap (λ (g : W.Gossip ℕ). handler.item ipv4 (g .event) m ds) (lent-at i h)
 
-  -- none is left
-  pub lent-over : (all : Answer (M.Out ℕ)) (draws : List ℕ) (used i : ℕ) (h : Heard) → n ≤ i → Sofar all (λ m ds. handler.gossip ipv4 (drop i lent) m ds) draws used h → Sofar all (λ m ds. M.quiet m ds) draws used h
-  lent-over all draws used i h k s =
-      record {
-        ready = s .ready;
-        row = s .row;
-        within = s .within;
-        whole = s .whole ∙ ap (λ (l : List (W.Gossip ℕ)). prepend (saidIn h) (handler.gossip ipv4 l (viewNode (h .node)) (drop used draws))) (drop-of-length-le lent {i = i} (omega (arith, lent-long)));
-      }
+  pub last-turn : (last : Rule) (i : ℕ) → n ≤ i → (m : M.Node ℕ) (ds : List ℕ) → ruleAt lent last i m ds ≡ last m ds
+  last-turn last i h m ds = at-last last lent i (omega (arith, lent-long)) m ds
 
--- a message that was heard, and one rule more
+-- one rule after another, three of them
+more-assoc : (x : Answer (M.Out ℕ)) (f g : Rule) → M.andMore (M.andMore x f) g ≡ M.andMore x (λ m ds. M.andMore (f m ds) g)
+unfolding M.andMore
+more-assoc (refused u) f g = refl
+more-assoc (done o rest) f g = inner (f (o .node) rest)
+  where
+    last : (p : M.Out ℕ) (y : Answer (M.Out ℕ)) → prepend (o .said ++ p .said) y ≡ prepend (o .said) (prepend (p .said) y)
+    last p (refused u) = refl
+    last p (done w r) = λ i. done (record { node = w .node; said = append-assoc (o .said) (p .said) (w .said) i }) r
+
+    inner : (y : Answer (M.Out ℕ)) → andThen (prepend (o .said) y) (λ q r. prepend (q .said) (g (q .node) r)) ≡ prepend (o .said) (andThen y (λ p r. prepend (p .said) (g (p .node) r)))
+    inner (refused u) = refl
+    inner (done p r) = last p (g (p .node) r)
+
 pub more-quiet : (x : Answer (M.Out ℕ)) → M.andMore x M.quiet ≡ x
 unfolding M.andMore M.quiet
 more-quiet (refused r) = refl
 more-quiet (done o rest) = λ i. done (record { node = o .node; said = append-nil (o .said) i }) rest
 
-module _ (n : Node) (draws : List ℕ) (rule : M.Node ℕ → List ℕ → Answer (M.Out ℕ)) where
-  -- it was kept: the rule is ahead
-  pub heard-ahead : (x : Answer (M.Out ℕ)) (h : Heard) (used : ℕ) → After (λ o. Keeps ipv4 (viewNode n) (o .node)) x → Leaves draws x → h ≡ heardOf n draws x → h .reported ≤ 64 → h .drew ≡ Used used
-      → Sofar (M.andMore x rule) (λ m ds. M.andMore (rule m ds) M.quiet) draws used h
-  unfolding M.andMore isUsed
-  heard-ahead (refused u) h used k l e few d = let z : _≡_ {A = ℕ} 0 1 = ap isUsed (ap (λ (v : Heard). v .drew) (sym e) ∙ d) in absurd (omega arith)
-  heard-ahead (done o rest) h used (gives k) l e few d =
-      let w : length draws - length rest ≡ used = let z : _≡_ {A = Drew} (Used (length draws - length rest)) (Used used) = ap (λ (v : Heard). v .drew) (sym e) ∙ d in cc in
-      let v : used ≡ 0 + (length draws - 0 - length rest) = omega arith in
-      let gone : drop used draws ≡ rest = ap (λ (j : ℕ). drop j draws) v ∙ rest-is draws 0 (omega arith) l in
-      let fits : length (o .said) ≤ 65 = omega (arith, ap (λ (v : Heard). v .reported) e) in
-      let seen : viewNode (packNode (o .node)) ≡ o .node = nodes.view-pack (o .node) (k .good .whole) in
-      let said : saidIn (heardOf n draws (done o rest)) ≡ o .said = view-pack toGossip fromGossip to-from-gossip 65 noGossip (o .said) in
-      rw e
-      (record {
-        ready = ready-pack (o .node) (k .good);
-        row = packed-pack toGossip fromGossip 65 noGossip (o .said) fits;
-        within = omega (arith, rest-le draws 0 (omega arith) l);
-        whole =
-            ap (prepend (o .said)) (sym (more-quiet (rule (o .node) rest)))
-            ∙ ap (λ (v : List (W.Gossip ℕ)). prepend v (M.andMore (rule (o .node) rest) M.quiet)) (sym said)
-            ∙ ap (λ (m : M.Node ℕ). prepend (saidIn (heardOf n draws (done o rest))) (M.andMore (rule m rest) M.quiet)) (sym seen)
-            ∙ ap (λ (ds : List ℕ). prepend (saidIn (heardOf n draws (done o rest))) (M.andMore (rule (viewNode (packNode (o .node))) ds) M.quiet)) (sym gone);
-      })
+quiet-more : (f : Rule) (m : M.Node ℕ) (ds : List ℕ) → M.andMore (M.quiet m ds) f ≡ f m ds
+unfolding M.andMore M.quiet
+quiet-more f m ds = prepend-nil (f m ds)
 
-  -- it was refused, and so is the whole
-  pub heard-refused : (x : Answer (M.Out ℕ)) (h : Heard) (u : Refusal) → h ≡ heardOf n draws x → h .drew ≡ Refused u → refusedHeard n u ≡ heardOf n draws (M.andMore x rule)
-  unfolding M.andMore isUsed
-  heard-refused (refused w) h u e d = let z : _≡_ {A = Drew} (Refused w) (Refused u) = ap (λ (v : Heard). v .drew) (sym e) ∙ d in let q : w ≡ u = cc in ap (refusedHeard n) (sym q)
-  heard-refused (done o rest) h u e d = let z : _≡_ {A = ℕ} 1 0 = ap isUsed (ap (λ (v : Heard). v .drew) (sym e) ∙ d) in absurd (omega arith)
+-- The rules of a message: its records in their order, and then a last one. What is left from a turn on
+abbrev pub ahead : Rule → List (W.Gossip ℕ) → ℕ → Rule
+ahead last gs zero m ds = M.andMore (handler.gossip ipv4 gs m ds) last
+ahead last [] (suc i) m ds = M.quiet m ds
+ahead last (g ∷ gs) (suc i) m ds = ahead last gs i m ds
 
--- the last rule of a message, and all is heard
-module _ (whole : Answer (M.Out ℕ)) (draws : List ℕ) (h : Heard) (used : ℕ) (rule : M.Node ℕ → List ℕ → Answer (M.Out ℕ)) (room : h .reported < 65)
-    (s : Sofar whole (λ m ds. M.andMore (rule m ds) M.quiet) draws used h) (r : Ruled) (is : r ≡ ruledOf (h .node) (drop used draws) (rule (viewNode (h .node)) (drop used draws)))
-    (k : After (λ o. Keeps ipv4 (viewNode (h .node)) (o .node)) (rule (viewNode (h .node)) (drop used draws))) (f : Few (rule (viewNode (h .node)) (drop used draws)))
-    (l : Leaves (drop used draws) (rule (viewNode (h .node)) (drop used draws))) (h′ : Heard) (noted : h′ ≡ notedOf h r) where
-  pub finish-within : (more : ℕ) → h′ .drew ≡ Used more → used + more ≤ length draws
-  finish-within more d = sofar-more whole draws h used rule M.quiet room s r is more h′ k f l noted d .within
+ahead-next : (last : Rule) (gs : List (W.Gossip ℕ)) (i : ℕ) → i ≤ length gs → (m : M.Node ℕ) (ds : List ℕ) → ahead last gs i m ds ≡ M.andMore (ruleAt gs last i m ds) (ahead last gs (suc i))
+ahead-next last [] zero h m ds = quiet-more last m ds ∙ sym (more-quiet (last m ds))
+ahead-next last [] (suc i) h m ds = absurd (not-suc-le-zero h)
+ahead-next last (g ∷ gs) zero h m ds = more-assoc (handler.item ipv4 (g .event) m ds) (handler.gossip ipv4 gs) last
+ahead-next last (g ∷ gs) (suc i) h m ds = ahead-next last gs i (le-of-suc-le-suc h) m ds
 
-  by-drew : (n : Node) (d : Drew) → h′ .drew ≡ d → finishedBy d n h′ used ≡ heardOf n draws whole
-  by-drew n (Used more) d = sofar-ends whole draws n h′ (used + more) (sofar-more whole draws h used rule M.quiet room s r is more h′ k f l noted d)
-  by-drew n (Refused u) d = sofar-refused whole draws h used rule M.quiet room s r is n u (sym (ap (λ (v : Heard). v .drew) noted) ∙ d)
+ahead-over : (last : Rule) (gs : List (W.Gossip ℕ)) (i : ℕ) → length gs < i → (m : M.Node ℕ) (ds : List ℕ) → ahead last gs i m ds ≡ M.quiet m ds
+ahead-over last gs zero h m ds = absurd (not-suc-le-zero h)
+ahead-over last [] (suc i) h m ds = refl
+ahead-over last (g ∷ gs) (suc i) h m ds = ahead-over last gs i (le-of-suc-le-suc h) m ds
 
-  pub finish-is : (n : Node) → finishedOf n h′ used ≡ heardOf n draws whole
-  finish-is n = by-drew n (h′ .drew) refl
+module _ (last : Rule) (gs : List (W.Gossip ℕ)) (all : Answer (M.Out ℕ)) (draws : List ℕ) (used i : ℕ) (h : Heard) (s : Sofar all (ahead last gs i) draws used h) where
+  pub sofar-next : i ≤ length gs → Sofar all (λ m ds. M.andMore (ruleAt gs last i m ds) (ahead last gs (i + 1))) draws used h
+  sofar-next k =
+      record {
+        ready = s .ready;
+        row = s .row;
+        within = s .within;
+        whole = s .whole
+            ∙ ap (prepend (saidIn h)) (ahead-next last gs i k (viewNode (h .node)) (drop used draws) ∙ ap (λ (j : ℕ). M.andMore (ruleAt gs last i (viewNode (h .node)) (drop used draws)) (ahead last gs j)) (sym (add-one i)));
+      }
+
+  pub sofar-over : length gs < i → Sofar all M.quiet draws used h
+  sofar-over k = record { ready = s .ready; row = s .row; within = s .within; whole = s .whole ∙ ap (prepend (saidIn h)) (ahead-over last gs i k (viewNode (h .node)) (drop used draws)) }
+
+-- what is known of each rule of a message
+abbrev Sure : M.Node ℕ → List ℕ → Answer (M.Out ℕ) → Type 0
+Sure s ds x = After (λ o. Keeps ipv4 s (o .node)) x × Few x × Leaves ds x
+
+sender-sure : (sender : Optional) (s : M.Node ℕ) (ds : List ℕ) → Good ipv4 s → calls.validOption ipv4 (toOptional sender) ≡ true → Sure s ds (senderRule sender s ds)
+unfolding M.quiet
+sender-sure optional.Absent s ds g v = (gives {b = record { node = s; said = [] }} (same-node ipv4 g), quiet-few ipv4 s ds, quiet-leaves ipv4 s ds)
+sender-sure (optional.Given a) s ds g v = (admit-keeps ipv4 ipv4-lawful a s ds g v, admit-few ipv4 a s ds, admit-leaves ipv4 a s ds)
+
+pub turn-sure : (sender : Optional) (gs : List (W.Gossip ℕ)) (i : ℕ) (s : M.Node ℕ) (ds : List ℕ) → Good ipv4 s → every (validGossip ipv4) gs ≡ true → calls.validOption ipv4 (toOptional sender) ≡ true
+    → Sure s ds (ruleAt gs (senderRule sender) i s ds)
+turn-sure sender [] i s ds g v w = sender-sure sender s ds g w
+turn-sure sender (x ∷ gs) zero s ds g v w =
+    (item-keeps ipv4 ipv4-lawful (x .event) s ds g (and-split (validGossip ipv4 x) (every (validGossip ipv4) gs) v .0), item-few ipv4 (x .event) s ds, item-leaves ipv4 (x .event) s ds)
+turn-sure sender (x ∷ gs) (suc i) s ds g v w = turn-sure sender gs i s ds g (and-split (validGossip ipv4 x) (every (validGossip ipv4) gs) v .1) w
+
+-- what becomes of a node when a rule is carried out, part by part
+abbrev pub after : Node → Told → Members → Gossip → Node
+after n t m g = withHeaps (withMembers n m) (pick (isLiving t) (pushedTo (n .alive) g) (n .alive)) (pick (isDead t) (pushedTo (n .deceased) g) (n .deceased))
+
+abbrev pub told-too : Heard → Told → Members → Gossip → ℕ → Heard
+told-too h t m g more = record { node = after (h .node) t m g; events = pick (isTold t) (set (h .events) (h .reported) g) (h .events); reported = pick (isTold t) (h .reported + 1) (h .reported); drew = Used more }
+
+pub carried-drew : (n : Node) (d : Drew) (t : Told) (m : Members) (g : Gossip) → drewAfter d t (n .alive .len) (n .deceased .len) ≡ carriedBy d t n m g .drew
+carried-drew n (Refused u) t m g = refl
+carried-drew n (Used k) Nothing m g = refl
+carried-drew n (Used k) Living m g = elim (leb 128 (n .alive .len)) as (λ u. roomed (pick u (Refused HeapFull) (Used k)) false (n .deceased .len) ≡ (pick u (stops n HeapFull) (record { node = withHeaps (withMembers n m) (pushedTo (n .alive) g) (n .deceased); said = g; told = 1; drew = Used k })) .drew) [ true ↦ refl | false ↦ refl ]
+carried-drew n (Used k) Dead m g = elim (leb 128 (n .deceased .len)) as (λ u. pick u (Refused HeapFull) (Used k) ≡ (pick u (stops n HeapFull) (record { node = withHeaps (withMembers n m) (n .alive) (pushedTo (n .deceased) g); said = g; told = 1; drew = Used k })) .drew) [ true ↦ refl | false ↦ refl ]
+
+pub carried-noted : (h : Heard) (d : Drew) (t : Told) (m : Members) (g : Gossip) (more : ℕ) → drewAfter d t (h .node .alive .len) (h .node .deceased .len) ≡ Used more → told-too h t m g more ≡ notedOf h (carriedBy d t (h .node) m g)
+unfolding isUsed
+carried-noted h (Refused u) t m g more e = let z : _≡_ {A = ℕ} 0 1 = ap isUsed e in absurd (omega arith)
+carried-noted h (Used k) Nothing m g more e = let z : more ≡ k = cc in λ i. record { node = withMembers (h .node) m; events = h .events; reported = h .reported; drew = Used (z i) }
+carried-noted h (Used k) Living m g more e =
+    (elim (leb 128 (h .node .alive .len)) as (λ u. roomed (pick u (Refused HeapFull) (Used k)) false (h .node .deceased .len) ≡ Used more
+    → told-too h Living m g more ≡ notedOf h (pick u (stops (h .node) HeapFull) (record { node = after (h .node) Living m g; said = g; told = 1; drew = Used k }))) [
+      | true ↦ λ q. let z : _≡_ {A = ℕ} 0 1 = ap isUsed q in absurd (omega arith)
+      | false ↦ λ q. let z : more ≡ k = cc in λ i. record { node = after (h .node) Living m g; events = set (h .events) (h .reported) g; reported = h .reported + 1; drew = Used (z i) }
+    ]) e
+carried-noted h (Used k) Dead m g more e =
+    (elim (leb 128 (h .node .deceased .len)) as (λ u. pick u (Refused HeapFull) (Used k) ≡ Used more
+    → told-too h Dead m g more ≡ notedOf h (pick u (stops (h .node) HeapFull) (record { node = after (h .node) Dead m g; said = g; told = 1; drew = Used k }))) [
+      | true ↦ λ q. let z : _≡_ {A = ℕ} 0 1 = ap isUsed q in absurd (omega arith)
+      | false ↦ λ q. let z : more ≡ k = cc in λ i. record { node = after (h .node) Dead m g; events = set (h .events) (h .reported) g; reported = h .reported + 1; drew = Used (z i) }
+    ]) e

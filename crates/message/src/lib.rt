@@ -5,6 +5,7 @@ pub mod tests;
 
 use address::Address;
 use gossip::Heard;
+use gossip::Lent;
 use model::Refusal;
 use model::Reply;
 use model::State;
@@ -19,7 +20,7 @@ use types::Optional;
 ghost use mathlib.Core.Path.{_≡_};
 ghost use mathlib.Core.Bool.{true};
 ghost use mathlib.Core.List.{map};
-ghost use Prim.Native.Nat.{ℕ, _≤_};
+ghost use Prim.Native.Nat.{_≤_};
 ghost use lib.ListN.{length, take};
 ghost use Rattle.model.specs.IPv4.{ipv4};
 ghost use Rattle.model.specs.Rows.{every, padTo};
@@ -30,7 +31,7 @@ ghost use Rattle.model.specs.Handler as handler;
 ghost use Rattle.types.specs.Views.{toGossip, toOptional, toAction, noGossip};
 ghost use Rattle.node.specs.Views.{viewNode, packNode, storedView};
 ghost use Rattle.node.specs.Rows.{Ready};
-ghost use Rattle.message.specs.Answers.{noRows, oneLetter, refusedReceived, answeredOf, settledOf, forwardedOf, receivedOf, lentRows};
+ghost use Rattle.message.specs.Answers.{noRows, oneLetter, refusedReceived, answeredOf, settledOf, forwardedOf, acknowledgedOf, receivedOf, lentRows};
 
 // What a message call gives: the answer, the gossip of its message, and the events to report.
 pub struct Received {
@@ -56,12 +57,19 @@ fn no_gossip() -> [Gossip; Received::GOSSIP]
     [nothing; Received::GOSSIP]
 }
 
-// A refusal: the node as it came, nothing sent and nothing reported.
+// A refusal: the node as it came, nothing sent and nothing reported. Made in one piece, since an answer beside it would be a node more on the stack.
 fn refused(node: Node, refusal: Refusal) -> Received
     ensures { λ r. ⌜ r ≡ refusedReceived node refusal ⌝ }
 {
+    let none = Letter::none();
+    let letters = [none; Answer::LETTERS];
     Received {
-        answer: Answer::refused(refusal, node),
+        answer: Answer {
+            reply: Reply::Refused(refusal),
+            node,
+            letters,
+            sent: 0,
+        },
         gossip: no_gossip(),
         written: 0,
         events: gossip::no_events(),
@@ -84,33 +92,25 @@ fn one_letter(used: usize, node: Node, letter: Letter) -> Answer
     }
 }
 
-// One message goes out with gossip chosen for it; or what was heard was refused, and nothing is kept.
-fn answer(node: Node, heard: Heard, target: Address, action: Action) -> Received
-    requires { ⌜ ((used : ℕ) → heard .drew ≡ Drew.Used used → Ready (heard .node)) ⌝ }
-    ensures { λ r. ⌜ r ≡ answeredOf node heard target action ⌝ }
+// One message goes out with gossip chosen for it.
+fn answer(heard: Heard, used: usize, target: Address, action: Action) -> Received
+    requires { ⌜ Ready (heard .node) ⌝ }
+    ensures { λ r. ⌜ r ≡ answeredOf used heard target action ⌝ }
 {
-    let drew = heard.drew;
-    match drew {
-        Drew::Used(used) => {
-            let after = heard.node;
-            let spread = after.spread();
-            let gossip = spread.rows;
-            let events = heard.events;
-            let chosen = spread.node;
-            let letter = Letter {
-                target,
-                action,
-                count: spread.count,
-            };
-            Received {
-                answer: one_letter(used, chosen, letter),
-                gossip,
-                written: spread.count,
-                events,
-                reported: heard.reported,
-            }
-        },
-        Drew::Refused(refusal) => refused(node, refusal),
+    let spread = heard.node.spread();
+    let gossip = spread.rows;
+    let events = heard.events;
+    let letter = Letter {
+        target,
+        action,
+        count: spread.count,
+    };
+    Received {
+        answer: one_letter(used, spread.node, letter),
+        gossip,
+        written: spread.count,
+        events,
+        reported: heard.reported,
     }
 }
 
@@ -141,58 +141,44 @@ fn first_of(rows: [Gossip; Received::GOSSIP], given: usize) -> [Gossip; Received
 }
 
 // An Ack without forward_to: its sender is Alive.
-fn settle_ack(node: Node, heard: Heard, from: Address) -> Received
-    requires { ⌜ ((used : ℕ) → heard .drew ≡ Drew.Used used → Ready (heard .node)) ⌝ }
-    ensures { λ r. ⌜ r ≡ settledOf node heard from ⌝ }
+fn settle_ack(heard: Heard, used: usize, from: Address) -> Received
+    requires { ⌜ Ready (heard .node) ⌝ }
+    ensures { λ r. ⌜ r ≡ settledOf used heard from ⌝ }
 {
-    let drew = heard.drew;
-    match drew {
-        Drew::Used(used) => {
-            let after = heard.node;
-            let events = heard.events;
-            Received {
-                answer: Answer::plain(Reply::Done(used), acked(after, from)),
-                gossip: no_gossip(),
-                written: 0,
-                events,
-                reported: heard.reported,
-            }
-        },
-        Drew::Refused(refusal) => refused(node, refusal),
+    let events = heard.events;
+    Received {
+        answer: Answer::plain(Reply::Done(used), acked(heard.node, from)),
+        gossip: no_gossip(),
+        written: 0,
+        events,
+        reported: heard.reported,
     }
 }
 
 // An Ack with forward_to: it goes there with the sender and gossip unchanged and no forward_to.
 fn forward_ack(
-    node: Node,
     heard: Heard,
+    used: usize,
     from: Address,
     to: Address,
     rows: [Gossip; Received::GOSSIP],
     given: usize,
 ) -> Received
     requires { ⌜ given ≤ 64 ⌝ }
-    ensures { λ r. ⌜ r ≡ forwardedOf node heard from to rows given ⌝ }
+    ensures { λ r. ⌜ r ≡ forwardedOf used heard from to rows given ⌝ }
 {
-    let drew = heard.drew;
-    match drew {
-        Drew::Used(used) => {
-            let after = heard.node;
-            let events = heard.events;
-            let letter = Letter {
-                target: to,
-                action: Action::new_ack(from, Optional::Absent),
-                count: given,
-            };
-            Received {
-                answer: one_letter(used, after, letter),
-                gossip: first_of(rows, given),
-                written: given,
-                events,
-                reported: heard.reported,
-            }
-        },
-        Drew::Refused(refusal) => refused(node, refusal),
+    let events = heard.events;
+    let letter = Letter {
+        target: to,
+        action: Action::new_ack(from, Optional::Absent),
+        count: given,
+    };
+    Received {
+        answer: one_letter(used, heard.node, letter),
+        gossip: first_of(rows, given),
+        written: given,
+        events,
+        reported: heard.reported,
     }
 }
 
@@ -215,12 +201,23 @@ fn handle_ping(
     given: usize,
     draws: &[u64],
 ) -> Received
-    requires { ⌜ Ready node × (given ≤ 64) × (every (validGossip ipv4) (map toGossip (take given rows)) ≡ true) × (ipv4 .valid from ≡ true) ⌝ }
+    requires { ⌜ Ready node × (length rows ≡ 64) × (given ≤ 64) × (every (validGossip ipv4) (map toGossip (take given rows)) ≡ true) × (ipv4 .valid from ≡ true) ⌝ }
     ensures { λ r. ⌜ r ≡ receivedOf (calls.kept ipv4 (storedView node) (now (draws .entry)) (handler.handle ipv4 (W.Ping from (toOptional «requested_by»)) (map toGossip (take given rows)) (viewNode node) (now (draws .entry)))) ⌝ }
 {
-    let heard = gossip::hear_ping(node, from, rows, given, draws);
-    let target = ack_target(from, requested_by);
-    answer(node, heard, target, Action::new_ack(node.own, requested_by))
+    let lent = Lent {
+        rows,
+        given,
+        sender: Optional::Given(from),
+    };
+    let heard = gossip::hear(node, lent, draws);
+    let drew = heard.drew;
+    match drew {
+        Drew::Used(used) => {
+            let target = ack_target(from, requested_by);
+            answer(heard, used, target, Action::new_ack(node.own, requested_by))
+        },
+        Drew::Refused(refusal) => refused(node, refusal),
+    }
 }
 
 // PingReq: gossip, choose, Ping to the suspect with requested_by the asker; the asker isn't added.
@@ -232,16 +229,41 @@ fn handle_ping_req(
     given: usize,
     draws: &[u64],
 ) -> Received
-    requires { ⌜ Ready node × (given ≤ 64) × (every (validGossip ipv4) (map toGossip (take given rows)) ≡ true) ⌝ }
+    requires { ⌜ Ready node × (length rows ≡ 64) × (given ≤ 64) × (every (validGossip ipv4) (map toGossip (take given rows)) ≡ true) ⌝ }
     ensures { λ r. ⌜ r ≡ receivedOf (calls.kept ipv4 (storedView node) (now (draws .entry)) (handler.handle ipv4 (W.PingReq from suspect) (map toGossip (take given rows)) (viewNode node) (now (draws .entry)))) ⌝ }
 {
-    let heard = gossip::hear(node, rows, given, draws);
-    answer(
-        node,
-        heard,
-        suspect,
-        Action::new_ping(node.own, Optional::Given(from)),
-    )
+    let lent = Lent {
+        rows,
+        given,
+        sender: Optional::Absent,
+    };
+    let heard = gossip::hear(node, lent, draws);
+    let drew = heard.drew;
+    match drew {
+        Drew::Used(used) => {
+            let ping = Action::new_ping(node.own, Optional::Given(from));
+            answer(heard, used, suspect, ping)
+        },
+        Drew::Refused(refusal) => refused(node, refusal),
+    }
+}
+
+// Without forward_to its sender is Alive; with it the Ack goes on.
+fn acknowledge(
+    heard: Heard,
+    used: usize,
+    from: Address,
+    forward_to: Optional,
+    rows: [Gossip; Received::GOSSIP],
+    given: usize,
+) -> Received
+    requires { ⌜ Ready (heard .node) × (given ≤ 64) ⌝ }
+    ensures { λ r. ⌜ r ≡ acknowledgedOf used heard from rows given «forward_to» ⌝ }
+{
+    match forward_to {
+        Optional::Absent => settle_ack(heard, used, from),
+        Optional::Given(to) => forward_ack(heard, used, from, to, rows, given),
+    }
 }
 
 // Ack: gossip; without forward_to, a listed sender becomes Alive; with it, the Ack goes on.
@@ -253,13 +275,19 @@ fn handle_ack(
     given: usize,
     draws: &[u64],
 ) -> Received
-    requires { ⌜ Ready node × (given ≤ 64) × (every (validGossip ipv4) (map toGossip (take given rows)) ≡ true) × (length rows ≡ 64) ⌝ }
+    requires { ⌜ Ready node × (length rows ≡ 64) × (given ≤ 64) × (every (validGossip ipv4) (map toGossip (take given rows)) ≡ true) ⌝ }
     ensures { λ r. ⌜ r ≡ receivedOf (calls.kept ipv4 (storedView node) (now (draws .entry)) (handler.handle ipv4 (W.Ack from (toOptional «forward_to»)) (map toGossip (take given rows)) (viewNode node) (now (draws .entry)))) ⌝ }
 {
-    let heard = gossip::hear(node, rows, given, draws);
-    match forward_to {
-        Optional::Absent => settle_ack(node, heard, from),
-        Optional::Given(to) => forward_ack(node, heard, from, to, rows, given),
+    let lent = Lent {
+        rows,
+        given,
+        sender: Optional::Absent,
+    };
+    let heard = gossip::hear(node, lent, draws);
+    let drew = heard.drew;
+    match drew {
+        Drew::Used(used) => acknowledge(heard, used, from, forward_to, rows, given),
+        Drew::Refused(refusal) => refused(node, refusal),
     }
 }
 

@@ -1,100 +1,113 @@
-// The rules of the four events, and of a Ping's sender: each gives the node, at most one event to report, and the draws it used.
+// The rules of the four events, and of a Ping's sender: each decides what becomes of the list, which event goes to which heap, and the draws used.
+use crate::gossip::Lent;
 use address::Address;
 use disseminate::Found;
+use heap::Heap;
+use member::Member;
+use member::Members;
 use model::Refusal;
 use model::State;
-use node::Node;
-use node::parts::Emitted;
 use order::Drew;
 use types::Event;
 use types::Gossip;
+use types::Optional;
 ghost use mathlib.Core.Path.{_≡_};
-ghost use mathlib.Core.List.{List};
+ghost use mathlib.Core.List.{List, map};
 ghost use Prim.Native.Nat.{ℕ, _≤_, max};
-ghost use lib.ListN.{length, drop};
+ghost use lib.ListN.{length, take, drop};
 ghost use mathlib.Core.Bool.{true, false};
 ghost use mathlib.Core.Option.{some};
 ghost use Rattle.model.specs.IPv4.{ipv4};
-ghost use Rattle.model.specs.Node as M;
+ghost use Rattle.model.specs.Rows.{every};
+ghost use Rattle.model.specs.Choose as choosing;
+ghost use Rattle.model.specs.Members as list;
+ghost use Rattle.model.specs.Calls as calls;
 ghost use Rattle.model.specs.Handler as handler;
 ghost use Rattle.model.specs.Sound.{validGossip};
-ghost use Rattle.types.specs.Views.{toGossip, toEvent};
-ghost use Rattle.node.specs.Views.{viewNode};
-ghost use Rattle.node.specs.Rows.{Ready};
-ghost use Rattle.message.specs.Views.{quietRuled, stoppedRuled, reportedAs, ruledOf, nextOf};
+ghost use Rattle.types.specs.Views.{toGossip, toEvent, toOptional};
+ghost use Rattle.heap.specs.Views.{heapView, Packed};
+ghost use Rattle.member.specs.Views.{viewMembers, Held};
+ghost use Rattle.node.specs.declared.Node.{Node};
+ghost use Rattle.message.specs.Views.{quietRuled, stoppedRuled, reportedAs, nextOf, Decides, ruleAt, senderRule};
 
-// What a rule leaves. Where it is refused the node is as it came, and nothing is said.
+// Does a rule say something, and to which heap does it go?
+pub enum Told {
+    Nothing,
+    Living,
+    Dead,
+}
+
+// What a rule decides. Its event is not pushed yet; where the rule is refused the list is as it came, and nothing is said.
 pub struct Ruled {
-    pub node: Node,
+    pub members: Members,
     pub said: Gossip,
-    pub told: usize,
+    pub told: Told,
     pub drew: Drew,
 }
 
 // Nothing is reported.
-fn quiet(node: Node) -> Ruled
-    ensures { λ r. ⌜ r ≡ quietRuled node ⌝ }
+fn quiet(members: Members) -> Ruled
+    ensures { λ r. ⌜ r ≡ quietRuled members ⌝ }
 {
     let nothing = Gossip {
         event: Event::Nothing,
     };
     Ruled {
-        node,
+        members,
         said: nothing,
-        told: 0,
+        told: Told::Nothing,
         drew: Drew::Used(0),
     }
 }
 
 // A refusal: nothing is kept.
-fn stopped(node: Node, refusal: Refusal) -> Ruled
-    ensures { λ r. ⌜ r ≡ stoppedRuled node refusal ⌝ }
+fn stopped(members: Members, refusal: Refusal) -> Ruled
+    ensures { λ r. ⌜ r ≡ stoppedRuled members refusal ⌝ }
 {
     let nothing = Gossip {
         event: Event::Nothing,
     };
     Ruled {
-        node,
+        members,
         said: nothing,
-        told: 0,
+        told: Told::Nothing,
         drew: Drew::Refused(refusal),
     }
 }
 
-// An event was pushed and is reported; or its heap was full, and the node is as it came.
-fn reported(node: Node, emitted: Emitted, said: Gossip, used: usize) -> Ruled
-    ensures { λ r. ⌜ r ≡ reportedAs node emitted said used ⌝ }
+// An event is to be pushed and reported.
+fn reported(members: Members, event: Event, told: Told, used: usize) -> Ruled
+    ensures { λ r. ⌜ r ≡ reportedAs members event told used ⌝ }
 {
-    if emitted.full {
-        return stopped(node, Refusal::HeapFull);
-    }
-    let after = emitted.node;
+    let said = Gossip { event };
     Ruled {
-        node: after,
+        members,
         said,
-        told: 1,
+        told,
         drew: Drew::Used(used),
     }
 }
 
 // An address that is not listed comes in at a number, and Joined is emitted.
-fn enter(node: Node, a: Address, number: u64, draws: &[u64], from: usize) -> Ruled
-    requires { ⌜ Ready node × (ipv4 .valid a ≡ true) × (M.lists ipv4 a (viewNode node) ≡ false) × (from ≤ length (now draws)) ⌝ }
-    ensures { λ r. ⌜ r ≡ ruledOf node (drop from (now (draws .entry))) (handler.enter ipv4 a number (viewNode node) (drop from (now (draws .entry)))) ⌝ }
+fn enter(
+    members: Members,
+    own: Address,
+    a: Address,
+    number: u64,
+    draws: &[u64],
+    from: usize,
+) -> Ruled
+    requires { ⌜ Held members × (ipv4 .valid a ≡ true) × (list.listed (ipv4 .same) a (viewMembers members .table) ≡ false) × (from ≤ length (now draws)) ⌝ }
+    ensures { λ r. ⌜ ((n : Node) → Decides n own members (n .deceased) (drop from (now (draws .entry))) r (handler.enter ipv4 a number)) ⌝ }
 {
-    let members = node.members;
     let kept = members.add_member(a, number, draws, from);
-    let after = kept.members;
     let drew = kept.drew;
     match drew {
         Drew::Used(used) => {
-            let said = Gossip {
-                event: Event::new_node_joined(node.own, a, number),
-            };
-            let entered = node.with_members(after);
-            reported(node, entered.emit_alive(said), said, used)
+            let event = Event::new_node_joined(own, a, number);
+            reported(kept.members, event, Told::Living, used)
         },
-        Drew::Refused(refusal) => stopped(node, refusal),
+        Drew::Refused(refusal) => stopped(members, refusal),
     }
 }
 
@@ -113,11 +126,10 @@ fn plus_one(number: u64) -> Next
     Next::Number(number + 1)
 }
 
-fn death_plus_one(node: Node, a: Address) -> Next
-    requires { ⌜ Ready node ⌝ }
-    ensures { λ r. ⌜ r ≡ nextOf (M.heldDeath ipv4 a (viewNode node)) ⌝ }
+fn death_plus_one(deceased: Heap, a: Address) -> Next
+    requires { ⌜ Packed deceased ⌝ }
+    ensures { λ r. ⌜ r ≡ nextOf (choosing.death ipv4 a (heapView deceased)) ⌝ }
 {
-    let deceased = node.deceased;
     let found = disseminate::death(deceased, a);
     match found {
         Found::Missing => Next::Number(0),
@@ -126,23 +138,31 @@ fn death_plus_one(node: Node, a: Address) -> Next
 }
 
 // Joined at its number. Listed: if greater, raise it and keep the state; else nothing. Absent: add.
-fn joined_at(node: Node, a: Address, number: u64, draws: &[u64], from: usize) -> Ruled
-    requires { ⌜ Ready node × (ipv4 .valid a ≡ true) × (from ≤ length (now draws)) ⌝ }
-    ensures { λ r. ⌜ r ≡ ruledOf node (drop from (now (draws .entry))) (handler.joinedAt ipv4 a number (viewNode node) (drop from (now (draws .entry)))) ⌝ }
+fn joined_at(
+    members: Members,
+    own: Address,
+    a: Address,
+    number: u64,
+    draws: &[u64],
+    from: usize,
+) -> Ruled
+    requires { ⌜ Held members × (ipv4 .valid a ≡ true) × (from ≤ length (now draws)) ⌝ }
+    ensures { λ r. ⌜ ((n : Node) → Decides n own members (n .deceased) (drop from (now (draws .entry))) r (handler.joinedAt ipv4 a number)) ⌝ }
 {
-    let members = node.members;
     if !members.lists(a) {
-        return enter(node, a, number, draws, from);
+        return enter(members, own, a, number, draws, from);
     }
     if number <= members.member_number(a) {
-        return quiet(node);
+        return quiet(members);
     }
     let state = members.member_state(a);
-    let said = Gossip {
-        event: Event::new_node_joined(node.own, a, number),
-    };
-    let changed = node.change(a, state, number);
-    reported(node, changed.emit_alive(said), said, 0)
+    let changed = members.update_member(Member {
+        addr: a,
+        state,
+        number,
+    });
+    let event = Event::new_node_joined(own, a, number);
+    reported(changed, event, Told::Living, 0)
 }
 
 fn greater(a: u64, b: u64) -> u64
@@ -152,34 +172,43 @@ fn greater(a: u64, b: u64) -> u64
 }
 
 // Joined: number = max(D + 1 or 0, joined).
-fn joined(node: Node, a: Address, number: u64, draws: &[u64], from: usize) -> Ruled
-    requires { ⌜ Ready node × (ipv4 .valid a ≡ true) × (from ≤ length (now draws)) ⌝ }
-    ensures { λ r. ⌜ r ≡ ruledOf node (drop from (now (draws .entry))) (handler.joined ipv4 a number (viewNode node) (drop from (now (draws .entry)))) ⌝ }
+fn joined(
+    members: Members,
+    own: Address,
+    deceased: Heap,
+    a: Address,
+    number: u64,
+    draws: &[u64],
+    from: usize,
+) -> Ruled
+    requires { ⌜ Held members × Packed deceased × (ipv4 .valid a ≡ true) × (from ≤ length (now draws)) ⌝ }
+    ensures { λ r. ⌜ ((n : Node) → Decides n own members deceased (drop from (now (draws .entry))) r (handler.joined ipv4 a number)) ⌝ }
 {
-    let next = death_plus_one(node, a);
+    let next = death_plus_one(deceased, a);
     match next {
-        Next::Number(least) => joined_at(node, a, greater(least, number), draws, from),
-        Next::End => stopped(node, Refusal::NumberEnd),
+        Next::Number(least) => { joined_at(members, own, a, greater(least, number), draws, from) },
+        Next::End => stopped(members, Refusal::NumberEnd),
     }
 }
 
 // Recovered: listed and greater: Alive, emit.
-fn recovered(node: Node, a: Address, number: u64) -> Ruled
-    requires { ⌜ Ready node ⌝ }
-    ensures { λ r. ⌜ ((ds : List ℕ) → r ≡ ruledOf node ds (handler.recovered ipv4 a number (viewNode node) ds)) ⌝ }
+fn recovered(members: Members, own: Address, a: Address, number: u64) -> Ruled
+    requires { ⌜ Held members ⌝ }
+    ensures { λ r. ⌜ ((n : Node) (ds : List ℕ) → Decides n own members (n .deceased) ds r (handler.recovered ipv4 a number)) ⌝ }
 {
-    let members = node.members;
     if !members.lists(a) {
-        return quiet(node);
+        return quiet(members);
     }
     if number <= members.member_number(a) {
-        return quiet(node);
+        return quiet(members);
     }
-    let said = Gossip {
-        event: Event::new_node_recovered(node.own, a, number),
-    };
-    let changed = node.change(a, State::Alive, number);
-    reported(node, changed.emit_alive(said), said, 0)
+    let changed = members.update_member(Member {
+        addr: a,
+        state: State::Alive,
+        number,
+    });
+    let event = Event::new_node_recovered(own, a, number);
+    reported(changed, event, Told::Living, 0)
 }
 
 // if Alive and ≥, or not Alive and >
@@ -194,106 +223,139 @@ fn believed(state: State, held: u64, number: u64) -> bool
 }
 
 // Suspected of another: listed and believed: set Suspected, emit.
-fn suspected_other(node: Node, a: Address, number: u64) -> Ruled
-    requires { ⌜ Ready node ⌝ }
-    ensures { λ r. ⌜ ((ds : List ℕ) → r ≡ ruledOf node ds (handler.suspectedOther ipv4 a number (viewNode node) ds)) ⌝ }
+fn suspected_other(members: Members, own: Address, a: Address, number: u64) -> Ruled
+    requires { ⌜ Held members ⌝ }
+    ensures { λ r. ⌜ ((n : Node) (ds : List ℕ) → Decides n own members (n .deceased) ds r (handler.suspectedOther ipv4 a number)) ⌝ }
 {
-    let members = node.members;
     if !members.lists(a) {
-        return quiet(node);
+        return quiet(members);
     }
     if !believed(members.member_state(a), members.member_number(a), number) {
-        return quiet(node);
+        return quiet(members);
     }
-    let said = Gossip {
-        event: Event::new_node_suspected(node.own, a, number),
-    };
-    let changed = node.change(a, State::Suspected, number);
-    reported(node, changed.emit_alive(said), said, 0)
+    let changed = members.update_member(Member {
+        addr: a,
+        state: State::Suspected,
+        number,
+    });
+    let event = Event::new_node_suspected(own, a, number);
+    reported(changed, event, Told::Living, 0)
 }
 
 // Suspected, own address: emit Recovered with number + 1; own record unmoved.
-fn suspected(node: Node, a: Address, number: u64) -> Ruled
-    requires { ⌜ Ready node ⌝ }
-    ensures { λ r. ⌜ ((ds : List ℕ) → r ≡ ruledOf node ds (handler.suspected ipv4 a number (viewNode node) ds)) ⌝ }
+fn suspected(members: Members, own: Address, a: Address, number: u64) -> Ruled
+    requires { ⌜ Held members ⌝ }
+    ensures { λ r. ⌜ ((n : Node) (ds : List ℕ) → Decides n own members (n .deceased) ds r (handler.suspected ipv4 a number)) ⌝ }
 {
-    if !address::same(node.own, a) {
-        return suspected_other(node, a, number);
+    if !address::same(own, a) {
+        return suspected_other(members, own, a, number);
     }
     let next = plus_one(number);
     match next {
         Next::Number(more) => {
-            let said = Gossip {
-                event: Event::new_node_recovered(node.own, node.own, more),
-            };
-            reported(node, node.emit_alive(said), said, 0)
+            let event = Event::new_node_recovered(own, own, more);
+            reported(members, event, Told::Living, 0)
         },
-        Next::End => stopped(node, Refusal::NumberEnd),
+        Next::End => stopped(members, Refusal::NumberEnd),
     }
 }
 
 // Deceased: listed and ≥: remove, emit to the deceased heap. The own address is no exception.
-fn deceased(node: Node, a: Address, number: u64) -> Ruled
-    requires { ⌜ Ready node ⌝ }
-    ensures { λ r. ⌜ ((ds : List ℕ) → r ≡ ruledOf node ds (handler.deceased ipv4 a number (viewNode node) ds)) ⌝ }
+fn deceased(members: Members, own: Address, a: Address, number: u64) -> Ruled
+    requires { ⌜ Held members ⌝ }
+    ensures { λ r. ⌜ ((n : Node) (ds : List ℕ) → Decides n own members (n .deceased) ds r (handler.deceased ipv4 a number)) ⌝ }
 {
-    let members = node.members;
     if !members.lists(a) {
-        return quiet(node);
+        return quiet(members);
     }
     if number < members.member_number(a) {
-        return quiet(node);
+        return quiet(members);
     }
-    let said = Gossip {
-        event: Event::new_node_deceased(node.own, a, number),
-    };
-    let left = node.leave(a);
-    reported(node, left.emit_deceased(said), said, 0)
+    let left = members.remove_member(a);
+    let event = Event::new_node_deceased(own, a, number);
+    reported(left, event, Told::Dead, 0)
 }
 
 // One gossip record: one of four events, or none, which is skipped.
-pub fn item(node: Node, g: Gossip, draws: &[u64], from: usize) -> Ruled
-    requires { ⌜ Ready node × (validGossip ipv4 (toGossip g) ≡ true) × (from ≤ length (now draws)) ⌝ }
-    ensures { λ r. ⌜ r ≡ ruledOf node (drop from (now (draws .entry))) (handler.item ipv4 (toEvent (g .event)) (viewNode node) (drop from (now (draws .entry)))) ⌝ }
+fn item(
+    members: Members,
+    own: Address,
+    deceased: Heap,
+    g: Gossip,
+    draws: &[u64],
+    from: usize,
+) -> Ruled
+    requires { ⌜ Held members × Packed deceased × (validGossip ipv4 (toGossip g) ≡ true) × (from ≤ length (now draws)) ⌝ }
+    ensures { λ r. ⌜ ((n : Node) → Decides n own members deceased (drop from (now (draws .entry))) r (handler.item ipv4 (toEvent (g .event)))) ⌝ }
 {
     let event = g.event;
     match event {
-        Event::Nothing => quiet(node),
+        Event::Nothing => quiet(members),
         Event::Joined {
             from: _,
             subject,
             number,
-        } => joined(node, subject, number, draws, from),
+        } => joined(members, own, deceased, subject, number, draws, from),
         Event::Recovered {
             from: _,
             subject,
             number,
-        } => recovered(node, subject, number),
+        } => recovered(members, own, subject, number),
         Event::Suspected {
             from: _,
             subject,
             number,
-        } => suspected(node, subject, number),
+        } => suspected(members, own, subject, number),
         Event::Deceased {
             from: _,
             subject,
             number,
-        } => deceased(node, subject, number),
+        } => crate::rules::deceased(members, own, subject, number),
     }
 }
 
 // A Ping's sender: not listed, it is added with D + 1 or 0, emitting Joined.
-pub fn admit(node: Node, a: Address, draws: &[u64], from: usize) -> Ruled
-    requires { ⌜ Ready node × (ipv4 .valid a ≡ true) × (from ≤ length (now draws)) ⌝ }
-    ensures { λ r. ⌜ r ≡ ruledOf node (drop from (now (draws .entry))) (handler.admit ipv4 a (viewNode node) (drop from (now (draws .entry)))) ⌝ }
+fn admit(
+    members: Members,
+    own: Address,
+    deceased: Heap,
+    a: Address,
+    draws: &[u64],
+    from: usize,
+) -> Ruled
+    requires { ⌜ Held members × Packed deceased × (ipv4 .valid a ≡ true) × (from ≤ length (now draws)) ⌝ }
+    ensures { λ r. ⌜ ((n : Node) → Decides n own members deceased (drop from (now (draws .entry))) r (handler.admit ipv4 a)) ⌝ }
 {
-    let members = node.members;
     if members.lists(a) {
-        return quiet(node);
+        return quiet(members);
     }
-    let next = death_plus_one(node, a);
+    let next = death_plus_one(deceased, a);
     match next {
-        Next::Number(number) => enter(node, a, number, draws, from),
-        Next::End => stopped(node, Refusal::NumberEnd),
+        Next::Number(number) => enter(members, own, a, number, draws, from),
+        Next::End => stopped(members, Refusal::NumberEnd),
+    }
+}
+
+// The rule whose turn it is: the records in their order, and behind them the sender.
+pub fn turn(
+    members: Members,
+    own: Address,
+    deceased: Heap,
+    lent: Lent,
+    i: usize,
+    draws: &[u64],
+    from: usize,
+) -> Ruled
+    requires { ⌜ Held members × Packed deceased × (length (lent .rows) ≡ 64) × (lent .given ≤ 64) × (i ≤ lent .given) × (every (validGossip ipv4) (map toGossip (take (lent .given) (lent .rows))) ≡ true) × (calls.validOption ipv4 (toOptional (lent .sender)) ≡ true) × (from ≤ length (now draws)) ⌝ }
+    ensures { λ r. ⌜ ((n : Node) → Decides n own members deceased (drop from (now (draws .entry))) r (ruleAt (map toGossip (take (lent .given) (lent .rows))) (senderRule (lent .sender)) i)) ⌝ }
+{
+    if i < lent.given {
+        let rows = lent.rows;
+        return item(members, own, deceased, rows[i], draws, from);
+    }
+    let sender = lent.sender;
+    match sender {
+        Optional::Absent => quiet(members),
+        Optional::Given(a) => admit(members, own, deceased, a, draws, from),
     }
 }

@@ -33,7 +33,7 @@ handle-ping-requires c κs =
     let d = c .before in
     let s = d .before .before .before in
     let p = s .pre in
-    (p .0, p .1, p .2, and-split _ _ (sym (ap in-range (d .action .given .1)) ∙ p .3) .0)
+    (p .0, p .4, p .1, p .2, and-split _ _ (sym (ap in-range (d .action .given .1)) ∙ p .3) .0)
 
 returns : tie.Need-returns
 returns c =
@@ -60,9 +60,9 @@ dispatch-action-spec =
     (λ c. search needs)
     handle-ping-requires
     (λ c. search needs)
-    (λ c κs. let p = c .before .before .before .before .pre in (p .0, p .1, p .2))
+    (λ c κs. let p = c .before .before .before .before .pre in (p .0, p .4, p .1, p .2))
     (λ c. search needs)
-    (λ c κs. let p = c .before .before .before .before .pre in (p .0, p .1, p .2, p .4))
+    (λ c κs. let p = c .before .before .before .before .pre in (p .0, p .4, p .1, p .2))
     returns
     returns-2
     returns-3)

@@ -1,87 +1,69 @@
--- `message::rules::admit` meets its contract: listed already, or D decides the number.
+-- `message::rules::admit` meets its contract: listed, or D decides the number.
 -- Assumes nothing.
-use mathlib.Core.Path.{_≡_, refl, ap, sym, _∙_}
-use mathlib.Core.Bool.{Bool, true, false, _&&_}
-use mathlib.Core.List.{List, [], _∷_}
-use mathlib.Core.Option.{Option, none, some}
-use Prim.Native.Nat.{ℕ, _+_, _-_, _≤_, _<_, max}
-use native.Mathlib.Omega.{arith}
-use lib.ListN.{length, drop, length-drop}
-use lib.Dec.{leb, ltb}
+use mathlib.Core.Path.{_≡_, ap, sym, _∙_}
+use lib.ListN.{drop}
 use borrow.Author.Needs.{needs}
-use borrow.Author.Tests.{not-true, not-false, lt-ltb, le-ltb, le-leb, lt-leb}
-use Rattle.model.specs.IPv4.{ipv4, ipv4-lawful}
-use Rattle.model.specs.Answers.{Answer, done, refused, when, andThen}
+use Rattle.model.specs.IPv4.{ipv4}
 use Rattle.model.specs.Node as M
 use Rattle.model.specs.Handler as handler
-use Rattle.model.specs.Keeps.{change-keeps, leave-keeps, add-keeps}
-use Rattle.types.specs.declared.Gossip.{Gossip}
-use Rattle.types.specs.declared.Event.{Event}
-use Rattle.types.specs.Views.{toGossip, toEvent}
 use Rattle.node.specs.declared.Node.{Node}
-use Rattle.node.specs.Views.{viewNode, packNode}
+use Rattle.node.specs.Views.{viewNode}
+use Rattle.message.specs.Views.{carried, carriedOf, placed}
 use Rattle.message.specs.Nexts.{death-number, death-end}
-use Rattle.node.specs.Rows.{Ready, ready-pack}
-use Rattle.message.specs.Views.{quietRuled, stoppedRuled, ruledOf, nextOf}
-use Rattle.message.specs.Ruling.{quiet-ruled, alive-ruled, deceased-ruled, then-ruled, else-ruled, both-true, left-false, right-false}
+use Rattle.message.specs.Ruling.{quiet-ruled, then-ruled, else-ruled}
 use Rattle.message.proofs.rules.admit.Statement.{statement}
 use Rattle.message.proofs.rules.admit.Tie as tie
 
-absent : (e : tie.Else1) → M.lists ipv4 (e .before .before .before .before .args .a) (viewNode (e .before .before .before .before .args .node)) ≡ false
-unfolding viewNode
-absent e = sym (e .before .lists .ensures) ∙ e .if1 .left
+abbrev there : tie.Start → Node → Node
+there s n = placed n (s .args .own) (s .args .members) (s .args .deceased)
 
 returns : tie.Need-returns
 unfolding handler.admit viewNode
-returns c =
+returns c n ready =
     let t = c .before in
-    let s = t .before .before .before .before in
-    let a = s .args in
-    let ds = drop (a .from) (a .draws .now) in
-    c .quiet .ensures ∙ then-ruled (a .node) ds _ _ _ _ (sym (t .before .lists .ensures) ∙ t .if1 .taken) (quiet-ruled (a .node) (s .pre .0) ds)
-
-enter-requires : tie.Need-enter-requires
-enter-requires c κs =
-    let e = c .before .before .before .before in
-    let s = e .before .before .before .before in
-    (s .pre .0, s .pre .1, absent e, s .pre .2)
+    let s = t .before .before .before in
+    let k = there s n in
+    let ds = drop (s .args .from) (s .args .draws .now) in
+    ap (carried k) (c .quiet .ensures) ∙ then-ruled k ds _ _ _ _ (sym (t .before .lists .ensures) ∙ t .if1 .taken) (quiet-ruled k ready ds)
 
 returns-2 : tie.Need-returns-2
-unfolding handler.admit
-returns-2 c =
+unfolding handler.admit viewNode
+returns-2 c n ready =
     let x = c .before .before in
     let d = x .before .before in
     let e = d .before in
-    let s = e .before .before .before .before in
+    let s = e .before .before .before in
     let a = s .args in
+    let k = there s n in
     let ds = drop (a .from) (a .draws .now) in
-    c .enter .ensures
-    ∙ else-ruled (a .node) ds _ _ _ _ (absent e)
-    (sym (ap (ruledOf (a .node) ds) (death-number (M.heldDeath ipv4 (a .a) (viewNode (a .node))) _ (λ k. handler.enter ipv4 (a .a) k (viewNode (a .node)) ds) (sym (d .death-plus-one .ensures) ∙ x .next .given .1))))
+    c .enter .ensures k ready
+    ∙ else-ruled k ds _ _ _ _ (sym (e .before .lists .ensures) ∙ e .if1 .left)
+    (sym (ap (carriedOf k ds) (death-number (M.heldDeath ipv4 (a .a) (viewNode k)) _ (λ j. handler.enter ipv4 (a .a) j (viewNode k) ds) (sym (d .death-plus-one .ensures) ∙ x .next .given .1))))
 
 returns-3 : tie.Need-returns-3
-unfolding handler.admit
-returns-3 c =
+unfolding handler.admit viewNode
+returns-3 c n ready =
     let o = c .before in
     let d = o .before .before in
     let e = d .before in
-    let s = e .before .before .before .before in
+    let s = e .before .before .before in
     let a = s .args in
+    let k = there s n in
     let ds = drop (a .from) (a .draws .now) in
-    c .stopped .ensures
-    ∙ else-ruled (a .node) ds _ _ _ _ (absent e)
-    (sym (ap (ruledOf (a .node) ds) (death-end (M.heldDeath ipv4 (a .a) (viewNode (a .node))) (λ k. handler.enter ipv4 (a .a) k (viewNode (a .node)) ds) (sym (d .death-plus-one .ensures) ∙ o .enum-told .given .1))))
+    ap (carried k) (c .stopped .ensures)
+    ∙ else-ruled k ds _ _ _ _ (sym (e .before .lists .ensures) ∙ e .if1 .left)
+    (sym (ap (carriedOf k ds) (death-end (M.heldDeath ipv4 (a .a) (viewNode k)) (λ j. handler.enter ipv4 (a .a) j (viewNode k) ds) (sym (d .death-plus-one .ensures) ∙ o .enum-told .given .1))))
 
 pub admit-spec : {M : Type 1} → statement M
 admit-spec =
     tie.close
     (tie.spec
-    (λ c κs. c .before .before .pre .0 .members)
+    (λ c κs. c .before .pre .0)
     (λ c κs. search needs)
     returns
-    (λ c κs. c .before .before .before .before .pre .0)
+    (λ c κs. c .before .before .before .pre .1)
     (λ c. search needs)
-    enter-requires
+    (λ c κs. let e = c .before .before .before .before in let s = e .before .before .before in (s .pre .0, s .pre .2, sym (e .before .lists .ensures) ∙ e .if1 .left, s .pre .3))
     (λ c. search needs)
     (λ c κs. search needs)
     returns-2

@@ -6,11 +6,11 @@ use Prim.Native.Nat.{ℕ}
 use native.Mathlib.Omega.{arith}
 use borrow.Author.Needs.{needs}
 use Rattle.model.specs.IPv4.{ipv4}
-use Rattle.model.specs.Node as M
+use Rattle.model.specs.Choose.{death}
+use Rattle.heap.specs.Views.{heapView}
 use Rattle.disseminate.specs.declared.Found.{Found}
 use Rattle.disseminate.specs.declared.Found.the-variants.{Missing, At}
 use Rattle.disseminate.specs.Views.{fromFound}
-use Rattle.node.specs.Views.{viewNode}
 use Rattle.message.specs.declared.rules.Next.{Next}
 use Rattle.message.specs.declared.rules.Next.the-variants.{Number}
 use Rattle.message.specs.Views.{nextOf}
@@ -35,12 +35,14 @@ at none m r e p = let z : _≡_ {A = ℕ} 0 1 = ap there e in absurd (omega arit
 at (some n) m r e p = let z : _≡_ {A = ℕ} n m = cc in p ∙ ap (λ (k : ℕ). nextOf (some k)) (sym z)
 
 returns : tie.Need-returns
-unfolding viewNode
-returns c = let d = c .before .before in missing (M.heldDeath ipv4 (d .before .before .args .a) (viewNode (d .before .before .args .node))) (sym (d .death .ensures) ∙ c .enum-told .given .1)
+returns c = let d = c .before .before in let a = d .before .args in missing (death ipv4 (a .a) (heapView (a .deceased))) (sym (d .death .ensures) ∙ c .enum-told .given .1)
 
 returns-2 : tie.Need-returns-2
-unfolding viewNode
-returns-2 c = let f = c .before .before in let d = f .before .before in at (M.heldDeath ipv4 (d .before .before .args .a) (viewNode (d .before .before .args .node))) _ _ (sym (f .before .before .death .ensures) ∙ f .found .given .1) (c .plus-one .ensures)
+returns-2 c =
+    let f = c .before .before in
+    let d = f .before .before in
+    let a = d .before .args in
+    at (death ipv4 (a .a) (heapView (a .deceased))) _ _ (sym (d .death .ensures) ∙ f .found .given .1) (c .plus-one .ensures)
 
 pub death-plus-one-spec : {M : Type 1} → statement M
 death-plus-one-spec = tie.close (tie.spec (λ c κs. search needs) (λ c. search needs) (λ c. search needs) (λ c κs. search needs) returns returns-2)

@@ -1,94 +1,85 @@
 -- `message::rules::suspected_other` meets its contract: listed and believed, or nothing.
 -- Assumes nothing.
-use mathlib.Core.Path.{_≡_, refl, ap, sym, _∙_}
-use mathlib.Core.Bool.{Bool, true, false, _&&_}
-use mathlib.Core.List.{List, [], _∷_}
-use mathlib.Core.Option.{Option, none, some}
-use Prim.Native.Nat.{ℕ, _+_, _-_, _≤_, _<_, max}
-use native.Mathlib.Omega.{arith}
-use lib.ListN.{length, drop, length-drop}
-use lib.Dec.{leb, ltb}
+use mathlib.Core.Path.{_≡_, ap, sym, _∙_}
 use borrow.Author.Needs.{needs}
-use borrow.Author.Tests.{not-true, not-false, lt-ltb, le-ltb, le-leb, lt-leb}
-use Rattle.model.specs.IPv4.{ipv4, ipv4-lawful}
-use Rattle.model.specs.Answers.{Answer, done, refused, when, andThen}
-use Rattle.model.specs.declared.State.{State}
+use borrow.Author.Tests.{not-true, not-false}
+use Rattle.model.specs.IPv4.{ipv4}
 use Rattle.model.specs.Node as M
 use Rattle.model.specs.Handler as handler
-use Rattle.model.specs.Keeps.{change-keeps, leave-keeps, add-keeps}
-use Rattle.types.specs.declared.Gossip.{Gossip}
 use Rattle.types.specs.declared.Event.{Event}
-use Rattle.types.specs.Views.{toGossip, toEvent}
+use Rattle.types.specs.Views.{toGossip}
 use Rattle.node.specs.declared.Node.{Node}
-use Rattle.node.specs.Views.{viewNode, packNode}
-use Rattle.node.specs.Rows.{Ready, ready-pack}
-use Rattle.message.specs.Views.{quietRuled, stoppedRuled, ruledOf, nextOf}
-use Rattle.message.specs.Ruling.{quiet-ruled, alive-ruled, deceased-ruled, then-ruled, else-ruled, both-true, left-false, right-false}
+use Rattle.node.specs.Views.{viewNode}
+use Rattle.message.specs.Views.{carried, placed}
+use Rattle.message.specs.Ruling.{quiet-ruled, changed-ruled, then-ruled, else-ruled, both-true, left-false, right-false}
+use Prim.Native.Nat.{ℕ}
+use Rattle.model.specs.declared.State.{State}
+use Rattle.model.specs.declared.State.the-variants.{Suspected}
 use Rattle.message.proofs.rules.suspected_other.Statement.{statement}
 use Rattle.message.proofs.rules.suspected_other.Tie as tie
 
+abbrev there : tie.Start → Node → Node
+there s n = placed n (s .args .own) (s .args .members) (n .deceased)
+
 returns : tie.Need-returns
 unfolding handler.suspectedOther viewNode
-returns c ds =
+returns c n ds ready =
     let t = c .before in
-    let s = t .before .before .before in
-    let n = s .args .node in
-    c .quiet .ensures ∙ else-ruled n ds _ _ _ _ (left-false _ _ (sym (t .before .lists .ensures) ∙ not-true _ (t .if1 .taken))) (quiet-ruled n (s .pre) ds)
+    let k = there (t .before .before) n in
+    ap (carried k) (c .quiet .ensures) ∙ else-ruled k ds _ _ _ _ (left-false _ _ (sym (t .before .lists .ensures) ∙ not-true _ (t .if1 .taken))) (quiet-ruled k ready ds)
 
 -- what the test of the suspicion said
-tested : (c : tie.After-believed) → c .believed .result ≡ handler.believed ipv4 (M.stateOf ipv4 (c .before .before .before .before .before .before .args .a) (viewNode (c .before .before .before .before .before .before .args .node))) (M.numbered ipv4 (c .before .before .before .before .before .before .args .a) (viewNode (c .before .before .before .before .before .before .args .node))) (c .before .before .before .before .before .before .args .number)
+tested : (c : tie.After-believed) (n : Node)
+    → let s = c .before .before .before .before .before in
+    c .believed .result ≡ handler.believed ipv4 (M.stateOf ipv4 (s .args .a) (viewNode (there s n))) (M.numbered ipv4 (s .args .a) (viewNode (there s n))) (s .args .number)
 unfolding viewNode
-tested c =
-    let a = c .before .before .before .before .before .before .args in
-    c .believed .ensures ∙ ap (λ (x : State). handler.believed ipv4 x (c .before .member-number .result) (a .number)) (c .before .before .member-state .ensures)
-    ∙ ap (λ (k : ℕ). handler.believed ipv4 (M.stateOf ipv4 (a .a) (viewNode (a .node))) k (a .number)) (c .before .member-number .ensures)
+tested c n =
+    let s = c .before .before .before .before .before in
+    let a = s .args in
+    c .believed .ensures
+    ∙ ap (λ (x : State). handler.believed ipv4 x (c .before .member-number .result) (a .number)) (c .before .before .member-state .ensures)
+    ∙ ap (λ (k : ℕ). handler.believed ipv4 (M.stateOf ipv4 (a .a) (viewNode (there s n))) k (a .number)) (c .before .member-number .ensures)
 
 returns-2 : tie.Need-returns-2
 unfolding handler.suspectedOther viewNode
-returns-2 c ds =
+returns-2 c n ds ready =
     let t = c .before in
     let m = t .before in
     let e = m .before .before .before in
-    let s = e .before .before .before in
-    let n = s .args .node in
-    c .quiet2 .ensures
-    ∙ else-ruled n ds _ _ _ _
-    (right-false _ _ (sym (e .before .lists .ensures) ∙ not-false _ (e .if1 .left)) (sym (tested m) ∙ not-true _ (t .if2 .taken)))
-    (quiet-ruled n (s .pre) ds)
-
-emit-alive-requires : tie.Need-emit-alive-requires
-emit-alive-requires c κs = rw (c .change .ensures) (ready-pack _ (change-keeps ipv4 ipv4-lawful _ _ _ _ (c .before .before .before .before .before .before .before .before .before .pre .good) .good))
+    let k = there (e .before .before) n in
+    ap (carried k) (c .quiet2 .ensures)
+    ∙ else-ruled k ds _ _ _ _
+    (right-false _ _ (sym (e .before .lists .ensures) ∙ not-false _ (e .if1 .left)) (sym (tested m n) ∙ not-true _ (t .if2 .taken)))
+    (quiet-ruled k ready ds)
 
 returns-3 : tie.Need-returns-3
 unfolding handler.suspectedOther viewNode
-returns-3 c ds =
-    let g = c .before in
-    let k = g .before in
-    let v = k .before in
-    let f = v .before in
+returns-3 c n ds ready =
+    let v = c .before in
+    let u = v .before in
+    let f = u .before in
     let m = f .before in
     let e = m .before .before .before in
-    let s = e .before .before .before in
-    let n = s .args .node in
-    c .reported .ensures
-    ∙ then-ruled n ds _ _ _ _
-    (both-true _ _ (sym (e .before .lists .ensures) ∙ not-false _ (e .if1 .left)) (sym (tested m) ∙ not-false _ (f .if2 .left)))
-    (alive-ruled n (k .change .result) _ (k .change .ensures) (change-keeps ipv4 ipv4-lawful _ _ _ _ (s .pre .good) .good) _ _ (ap (λ (x : Event). toGossip (record { event = x })) (v .new-node-suspected .ensures)) (g .emit-alive .result) ds ds 0 (omega arith) (g .emit-alive .ensures))
+    let s = e .before .before in
+    let k = there s n in
+    ap (carried k) (c .reported .ensures)
+    ∙ then-ruled k ds _ _ _ _
+    (both-true _ _ (sym (e .before .lists .ensures) ∙ not-false _ (e .if1 .left)) (sym (tested m n) ∙ not-false _ (f .if2 .left)))
+    (changed-ruled k ready (u .update-member .result) (record { event = v .new-node-suspected .result }) _ (ap (λ (x : Event). toGossip (record { event = x })) (v .new-node-suspected .ensures)) ds (s .args .a) Suspected (s .args .number) (u .update-member .ensures))
 
 pub suspected-other-spec : {M : Type 1} → statement M
 suspected-other-spec =
     tie.close
     (tie.spec
-    (λ c κs. c .before .pre .members)
+    (λ c κs. search needs)
     (λ c κs. search needs)
     returns
-    (λ c κs. c .before .before .before .pre .members)
-    (λ c κs. c .before .before .before .before .pre .members)
+    (λ c κs. search needs)
+    (λ c κs. search needs)
     (λ c κs. search needs)
     (λ c κs. search needs)
     returns-2
     (λ c κs. search needs)
     (λ c κs. search needs)
-    emit-alive-requires
     (λ c κs. search needs)
     returns-3)
