@@ -25,12 +25,12 @@ use Rattle.types.specs.declared.Gossip.{Gossip}
 use Rattle.types.specs.Views.{toGossip, fromGossip, from-to-gossips}
 use Rattle.node.specs.declared.Node.{Node}
 use Rattle.node.specs.declared.Answer.{Answer as NodeAnswer}
-use Rattle.node.specs.Views.{storedView, unstored, answerOf}
+use Rattle.node.specs.Views.{storedView, unstored, answerOf, createdOf, plainAnswer, packNode, nobody}
 use Rattle.node.specs.Rows.{unstored-stored}
 use Rattle.detection.specs.declared.Wait.{Wait}
 use Rattle.detection.specs.Views.{toWait, fromWait, from-to-wait}
 use Rattle.swim.specs.declared.Outcome.{Outcome}
-use Rattle.swim.specs.Contracts.{outcomeOf, rowAfter, Ends}
+use Rattle.swim.specs.Contracts.{outcomeOf, rowAfter, Ends, Creates}
 use Rattle.promises.specs.Made.{Held, Made, adds, receives, steps, endsTimer}
 
 -- the kinds of reply are apart
@@ -142,3 +142,12 @@ keeps x h _ _ _ (endsTimer tick r events met) said =
 -- the theorem
 pub refused-keeps : (h h′ : Held) (c : Call ℕ) (reply : Reply) (x : Refusal) → Made h c reply h′ → reply ≡ Refused x → (h′ ≡ h) × (calls.drawsUsed reply ≡ 0)
 refused-keeps h h′ c reply x m said = (keeps x h c reply h′ m said, ap calls.drawsUsed said)
+
+-- "refused, it returns no node": in its place stand zeros, and nothing is sent
+pub refused-creates-nothing : (settings : Settings) (own number : ℕ) (r : NodeAnswer) (x : Refusal) → Creates settings own number r → r .reply ≡ Refused x → r ≡ plainAnswer (Refused x) (packNode nobody)
+unfolding createdOf kind
+refused-creates-nothing settings own number r x met said = bare (calls.create ipv4 settings own number) (met .answer)
+  where
+    bare : (c : calls.Created ℕ) → r ≡ createdOf c → r ≡ plainAnswer (Refused x) (packNode nobody)
+    bare (calls.created s) e = let z : _≡_ {A = ℕ} 0 3 = ap kind (sym (λ i. e i .reply) ∙ said) in absurd (omega arith)
+    bare (calls.notCreated y) e = e ∙ (λ i. plainAnswer ((sym (λ j. e j .reply) ∙ said) i) (packNode nobody))
