@@ -1,5 +1,7 @@
 pub mod Unique
 pub mod Made
 pub mod Refused
+pub mod Late
+pub mod Exactly
 pub mod Runs
 pub mod Demand3
