@@ -1,4 +1,5 @@
 -- A whole ring: its order is its listed addresses, each once, and its position is a place of it. Each operation keeps a ring whole.
+-- Assumes nothing.
 use mathlib.Core.Logic.{_≢_}
 use mathlib.Core.Path.{_≡_, refl, ap, sym, _∙_, subst}
 use mathlib.Core.Bool.{Bool, true, false}

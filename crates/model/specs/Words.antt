@@ -17,7 +17,7 @@ pub record Address (A : Type 0) : Type 0 where
   pub valid : A → Bool
   pub chars : A → ℕ
 
--- and what the theorems ask of it: the test is true of equals alone, and the address of an unused place is in range
+-- and what the theorems ask of it: the test is true of equals alone
 pub record Lawful {A : Type 0} (address : Address A) : Type 0 where
   pub test : Test (address .same)
 
