@@ -1,15 +1,17 @@
 -- How the wait record carries the model's, and how what a step and a timer call give carries the model's outcomes.
 -- Assumes nothing.
 use mathlib.Core.Path.{_≡_, refl}
+use mathlib.Core.Bool.{Bool, true}
 use mathlib.Core.List.{List, [], _∷_, _++_, map}
 use Prim.Native.Nat.{ℕ, _+_}
 use lib.ListN.{length, take, set, replicate}
 use Rattle.model.specs.declared.Reply.{Reply}
 use Rattle.model.specs.declared.Reply.the-variants.{Done}
-use Rattle.model.specs.Rows.{padTo}
+use Rattle.model.specs.Rows.{padTo, pick}
 use Rattle.model.specs.Packing.{PackedRow}
 use Rattle.model.specs.IPv4.{ipv4}
 use Rattle.model.specs.Words as W
+use Rattle.model.specs.Members as list
 use Rattle.model.specs.Node as M
 use Rattle.model.specs.Detector as D
 use Rattle.model.specs.Calls as calls
@@ -17,6 +19,8 @@ use Rattle.types.specs.declared.Gossip.{Gossip}
 use Rattle.types.specs.declared.Action.{Action}
 use Rattle.types.specs.declared.Action.the-variants.{PingReq}
 use Rattle.types.specs.Views.{fromGossip, noGossip}
+use Rattle.member.specs.declared.Members.{Members}
+use Rattle.member.specs.Views.{viewMembers}
 use Rattle.node.specs.declared.Node.{Node}
 use Rattle.node.specs.Views.{noLetter, fromMessage, plainAnswer, answerOf, viewNode, packNode}
 use Rattle.detection.specs.declared.WaitState.{WaitState}
@@ -70,6 +74,10 @@ from-to-wait w = λ i. record { state = from-to-state (w .state) i; since = w .s
 -- a fresh wait record, "SendingPing at any tick"
 abbrev pub freshWait : ℕ → Wait
 freshWait tick = record { state = SendingPing; since = tick }
+
+-- Alive or absent, as a list says
+abbrev pub heardIn : Members → ℕ → Bool
+heardIn m a = pick (list.listed (ipv4 .same) a (viewMembers m .table)) (W.isAlive (list.heldState (ipv4 .same) a (viewMembers m .table))) true
 
 -- what a step gives: its answer, the wait record, the gossip of its messages in sending order, and the event that it reported
 unfoldable pub steppedOf : calls.StepOutcome ℕ → Stepped

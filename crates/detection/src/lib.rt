@@ -146,14 +146,18 @@ fn step_due(node: Node, wait: Wait, tick: u32, draws: &[u64]) -> Stepped
         WaitState::SendingPing => pinging::send_ping(node, wait, tick, draws),
         WaitState::WaitingForPingAck { target, number } => {
             let next = WaitState::SendingPingReq { target, number };
-            rules::wait_for_ack(node, target, next, tick)
+            let members = node.members;
+            let after = rules::wait_for_ack(members, target, next, tick);
+            Stepped::plain(Reply::Done(0), node, after)
         }
         WaitState::SendingPingReq { target, number } => {
             pinging::send_ping_req(node, wait, target, number, tick, draws)
         }
         WaitState::WaitingForPingReqAck { target, number } => {
             let next = WaitState::Declaring { target, number };
-            rules::wait_for_ack(node, target, next, tick)
+            let members = node.members;
+            let after = rules::wait_for_ack(members, target, next, tick);
+            Stepped::plain(Reply::Done(0), node, after)
         }
         WaitState::Declaring { target, number } => {
             rules::declare_node_as_dead(node, wait, target, number, tick)
