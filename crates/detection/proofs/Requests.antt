@@ -1,6 +1,6 @@
 -- A ping request: the heap is full, a draw is missing, or the group is asked.
 -- Assumes nothing.
-use mathlib.Core.Path.{_≡_, ap, sym, _∙_}
+use mathlib.Core.Path.{_≡_, refl, ap, sym, _∙_}
 use mathlib.Core.Bool.{true, false}
 use mathlib.Core.List.{List, [], _∷_}
 use mathlib.Core.Option.{some}
@@ -28,12 +28,17 @@ use Rattle.types.specs.Views.{toEvent, toGossip}
 use Rattle.order.specs.declared.Drew.the-variants as drew
 use Rattle.order.specs.declared.Exclusion.the-variants.{Peer}
 use Rattle.order.specs.declared.Picks.{Picks}
+use Rattle.heap.specs.Views.{heapView}
+use Rattle.disseminate.specs.declared.Pushed.{Pushed}
+use Rattle.disseminate.specs.Views.{heldOr}
+use Rattle.member.specs.declared.Members.{Members}
 use Rattle.member.specs.declared.Picked.{Picked}
-use Rattle.member.specs.Views.{pickedAs, pickedOf}
+use Rattle.member.specs.Views.{packMembers, viewMembers, pickedAs, pickedOf}
 use Rattle.node.specs.declared.Node.{Node}
 use Rattle.node.specs.declared.parts.Emitted.{Emitted}
-use Rattle.node.specs.Views.{viewNode, packNode, storedView, withMembers, emittedOf}
+use Rattle.node.specs.Views.{viewNode, packNode, storedView, withMembers, withHeaps, emittedOf}
 use Rattle.node.specs.Rows.{Ready, ready-pack}
+use Rattle.node.specs.Parts.{part-members, emitted-alive}
 use Rattle.detection.specs.declared.Wait.{Wait}
 use Rattle.detection.specs.declared.Stepped.{Stepped}
 use Rattle.detection.specs.Views.{toWait, steppedOf, plainStep, keptOf, groupAsked}
@@ -48,8 +53,23 @@ module _ (n : Node) (r : Ready n) (w : Wait) (target number tick : ℕ) (draws :
   changed-good : Good ipv4 changed
   changed-good = change-keeps ipv4 ipv4-lawful target state.Suspected number (viewNode n) (r .good) .good
 
-  pub changed-ready : (m : Node) → m ≡ packNode changed → Ready m
+  -- the node with its list changed, of which the code makes the list alone
+  pub changed-is : (u : Members) → u ≡ packMembers (list.update (ipv4 .same) (record { addr = target; state = state.Suspected; number = number }) (viewMembers (n .members))) → withMembers n u ≡ packNode changed
+  unfolding M.change viewNode
+  changed-is u e = part-members n r (list.update (ipv4 .same) (record { addr = target; state = state.Suspected; number = number }) (viewNode n .members)) u e
+
+  changed-ready : (m : Node) → m ≡ packNode changed → Ready m
   changed-ready m e = rw e (ready-pack changed changed-good)
+
+  -- and with the suspicion pushed, of which the code makes the heap alone
+  abbrev pub emitted : Members → Pushed → Emitted
+  emitted u p = record { node = withHeaps (withMembers n u) (p .heap) (n .deceased); full = p .full }
+
+  pub emitted-is : (g : Gossip) (u : Members) (p : Pushed) → withMembers n u ≡ packNode changed → p ≡ heldOr (n .alive) (M.pushed ipv4 (toGossip g) (heapView (n .alive)) [])
+      → emitted u p ≡ emittedOf (withMembers n u) (M.emitAlive ipv4 (toGossip g) (viewNode (withMembers n u)) [])
+  unfolding M.emitAlive viewNode
+  emitted-is g u p e f =
+      emitted-alive (withMembers n u) (changed-ready (withMembers n u) e) (toGossip g) (M.pushed ipv4 (toGossip g) (heapView (n .alive)) []) p (withHeaps (withMembers n u) (p .heap) (n .deceased)) f refl
 
   -- what a step leaves after the suspicion
   abbrev then-ask : A.Answer (M.Out ℕ) → A.Answer (D.Stepped ℕ)

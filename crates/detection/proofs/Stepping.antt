@@ -10,8 +10,9 @@ use lib.Dec.{ltb}
 use borrow.Author.Tests.{lt-ltb, le-ltb}
 use Rattle.model.specs.declared.Refusal.{Refusal}
 use Rattle.model.specs.declared.Refusal.the-variants.{Unsound, ShortRow, AddressRange}
+use Rattle.model.specs.declared.Reply.{Reply}
 use Rattle.model.specs.declared.Reply.the-variants.{Done, NotDue, Refused}
-use Rattle.model.specs.Rows.{pick}
+use Rattle.model.specs.Rows.{pick, one}
 use Rattle.model.specs.Bounds.{Room, step-room}
 use Rattle.model.specs.IPv4.{ipv4}
 use Rattle.model.specs.Words as W
@@ -27,7 +28,8 @@ use Rattle.node.specs.Ends.{test-fails, test-passes}
 use Rattle.detection.specs.declared.WaitState.{WaitState}
 use Rattle.detection.specs.declared.WaitState.the-variants.{SendingPing}
 use Rattle.detection.specs.declared.Wait.{Wait}
-use Rattle.detection.specs.Views.{toState, toWait, fromState, from-to-state, steppedOf, plainStep, keptOf}
+use Rattle.detection.specs.declared.Tested.{Tested}
+use Rattle.detection.specs.Views.{toState, toWait, fromState, from-to-state, steppedOf, plainStep, keptOf, Told}
 use Rattle.detection.proofs.Plain.{plain-step, kept-step}
 
 -- "a detector step 256 and 1"
@@ -102,6 +104,23 @@ module _ (n : Node) (w : Wait) (tick : ℕ) (draws : List ℕ) (gossips events :
         pub step-is-due : u ≡ true → steppedOf (keptStep ipv4 s (toWait w) draws (D.step ipv4 (toState (w .state)) tick (viewNode n) draws)) ≡ steppedOf (detect ipv4 s (toWait w) tick draws lent)
         step-is-due z =
             sym (ap steppedOf (passed ∙ ap (λ (x : Bool). whenDue x s (toWait w) (keptStep ipv4 s (toWait w) draws (D.step ipv4 (toState (w .state)) tick (viewNode n) draws))) z))
+
+-- a step that is stopped is not due
+not-both : (t : Tested) (reply : Reply) → t ≡ record { due = false; reply = reply } → t .due ≡ true → _≡_ {A = ℕ} 1 0
+not-both t reply e z = ap one (sym z ∙ ap (λ (y : Tested). y .due) e)
+
+-- a test that stops the step says the answer
+pub stopped-told : (n : Node) (w : Wait) (tick gossips events : ℕ) (reply : Reply) (t : Tested) → t ≡ record { due = false; reply = reply }
+    → ((draws : List ℕ) → plainStep reply n w ≡ steppedOf (detect ipv4 (storedView n) (toWait w) tick draws (record { gossip = gossips; events = events })))
+    → Told n w tick gossips events t
+stopped-told n w tick gossips events reply t e f =
+    record {
+      stops = λ z ds. ap (λ (y : Tested). plainStep (y .reply) n w) e ∙ f ds;
+      goes = λ z ds. absurd (omega (arith, not-both t reply e z));
+      ready = λ z. absurd (omega (arith, not-both t reply e z));
+      valid = λ z. absurd (omega (arith, not-both t reply e z));
+      rooms = λ z. absurd (omega (arith, not-both t reply e z));
+    }
 
 -- waiting: the state goes on or back, and nothing else changes
 pub waited-is : (n : Node) (r : Ready n) (w : W.Wait ℕ) (a : ℕ) (next : WaitState) (tick : ℕ) (draws : List ℕ)

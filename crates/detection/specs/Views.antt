@@ -1,15 +1,17 @@
 -- How the wait record carries the model's, and how what a step and a timer call give carries the model's outcomes.
 -- Assumes nothing.
 use mathlib.Core.Path.{_≡_, refl}
+use mathlib.Core.Bool.{Bool, true, false}
 use mathlib.Core.List.{List, [], _∷_, _++_, map}
-use Prim.Native.Nat.{ℕ, _+_}
+use Prim.Native.Nat.{ℕ, _+_, _≤_}
 use lib.ListN.{length, take, set, replicate}
 use Rattle.model.specs.declared.Reply.{Reply}
 use Rattle.model.specs.declared.Reply.the-variants.{Done}
-use Rattle.model.specs.Rows.{padTo}
+use Rattle.model.specs.Rows.{padTo, pick}
 use Rattle.model.specs.Packing.{PackedRow}
 use Rattle.model.specs.IPv4.{ipv4}
 use Rattle.model.specs.Words as W
+use Rattle.model.specs.Members as list
 use Rattle.model.specs.Node as M
 use Rattle.model.specs.Detector as D
 use Rattle.model.specs.Calls as calls
@@ -17,12 +19,16 @@ use Rattle.types.specs.declared.Gossip.{Gossip}
 use Rattle.types.specs.declared.Action.{Action}
 use Rattle.types.specs.declared.Action.the-variants.{PingReq}
 use Rattle.types.specs.Views.{fromGossip, noGossip}
+use Rattle.member.specs.declared.Members.{Members}
+use Rattle.member.specs.Views.{viewMembers}
 use Rattle.node.specs.declared.Node.{Node}
-use Rattle.node.specs.Views.{noLetter, fromMessage, plainAnswer, answerOf, viewNode, packNode}
+use Rattle.node.specs.Views.{noLetter, fromMessage, plainAnswer, answerOf, storedView, viewNode, packNode}
+use Rattle.node.specs.Rows.{Ready}
 use Rattle.detection.specs.declared.WaitState.{WaitState}
 use Rattle.detection.specs.declared.WaitState.the-variants.{SendingPing, WaitingForPingAck, SendingPingReq, WaitingForPingReqAck, Declaring}
 use Rattle.detection.specs.declared.Wait.{Wait}
 use Rattle.detection.specs.declared.Stepped.{Stepped}
+use Rattle.detection.specs.declared.Tested.{Tested}
 use Rattle.detection.specs.declared.Ended.{Ended}
 use Rattle.detection.specs.declared.mail.Mail.{Mail}
 use Rattle.detection.specs.declared.pinging.Asked.{Asked}
@@ -71,6 +77,10 @@ from-to-wait w = λ i. record { state = from-to-state (w .state) i; since = w .s
 abbrev pub freshWait : ℕ → Wait
 freshWait tick = record { state = SendingPing; since = tick }
 
+-- Alive or absent, as a list says
+abbrev pub heardIn : Members → ℕ → Bool
+heardIn m a = pick (list.listed (ipv4 .same) a (viewMembers m .table)) (W.isAlive (list.heldState (ipv4 .same) a (viewMembers m .table))) true
+
 -- what a step gives: its answer, the wait record, the gossip of its messages in sending order, and the event that it reported
 unfoldable pub steppedOf : calls.StepOutcome ℕ → Stepped
 steppedOf o =
@@ -99,6 +109,16 @@ plainStep reply n w =
 
 abbrev pub plainEnd : Reply → Node → Ended
 plainEnd reply n = record { answer = plainAnswer reply n; events = replicate 1 noGossip; reported = 0 }
+
+-- what the tests before a step say of it, whatever is drawn
+pub record Told (n : Node) (w : Wait) (tick gossip-room event-room : ℕ) (t : Tested) : Type 0 where
+  pub stops : t .due ≡ false → (draws : List ℕ) → plainStep (t .reply) n w ≡ steppedOf (calls.detect ipv4 (storedView n) (toWait w) tick draws (record { gossip = gossip-room; events = event-room }))
+  pub goes : t .due ≡ true → (draws : List ℕ)
+      → steppedOf (calls.keptStep ipv4 (storedView n) (toWait w) draws (D.step ipv4 (toState (w .state)) tick (viewNode n) draws))
+      ≡ steppedOf (calls.detect ipv4 (storedView n) (toWait w) tick draws (record { gossip = gossip-room; events = event-room }))
+  pub ready : t .due ≡ true → Ready n
+  pub valid : t .due ≡ true → calls.validState ipv4 (toState (w .state)) ≡ true
+  pub rooms : t .due ≡ true → (256 ≤ gossip-room) × (1 ≤ event-room)
 
 -- a step that is kept, after so many draws
 abbrev pub keptOf : ℕ → D.Stepped ℕ → calls.StepOutcome ℕ

@@ -15,13 +15,13 @@ use types::Event;
 use types::Gossip;
 ghost use mathlib.Core.Path.{_≡_};
 ghost use Prim.Native.Nat.{_≤_};
-ghost use mathlib.Core.Bool.{true};
+ghost use mathlib.Core.Bool.{false};
 ghost use Rattle.model.specs.IPv4.{ipv4};
 ghost use Rattle.model.specs.Detector as D;
 ghost use Rattle.model.specs.Calls as calls;
 ghost use Rattle.node.specs.Views.{storedView, viewNode};
 ghost use Rattle.node.specs.Rows.{Ready};
-ghost use Rattle.detection.specs.Views.{toState, toWait, freshWait, steppedOf, endedOf, plainStep, plainEnd};
+ghost use Rattle.detection.specs.Views.{toState, toWait, freshWait, steppedOf, endedOf, plainStep, plainEnd, Told};
 
 // What the detector waits for. SendingPing comes first: a fresh wait record is in it.
 pub enum WaitState {
@@ -136,32 +136,49 @@ fn wait_of(settings: Settings, state: WaitState) -> u32
     }
 }
 
-// A step that is due, by the state.
-fn step_due(node: Node, wait: Wait, tick: u32, draws: &[u64]) -> Stepped
-    requires { ⌜ Ready node × (calls.validState ipv4 (toState (wait .state)) ≡ true) ⌝ }
-    ensures { λ r. ⌜ (r ≡ steppedOf (calls.keptStep ipv4 (storedView node) (toWait wait) (now (draws .entry)) (D.step ipv4 (toState (wait .state)) tick (viewNode node) (now (draws .entry))))) × (r .written ≤ 256) × (r .reported ≤ 1) ⌝ }
+// What the tests before a step say: is it due, and what it answers where it is not.
+pub struct Tested {
+    pub due: bool,
+    pub reply: Reply,
+}
+
+// A test stops the step.
+fn stopped(reply: Reply) -> Tested
+    ensures { λ r. ⌜ r ≡ record { due = false; reply = reply } ⌝ }
 {
+    Tested { due: false, reply }
+}
+
+// The tests: 2, 3, 5, not due. In a function of their own, so that their copy of the node is gone before the rules begin.
+fn test_step(node: Node, wait: Wait, tick: u32, gossip_room: usize, event_room: usize) -> Tested
+    ensures { λ r. ⌜ Told node wait tick «gossip_room» «event_room» r ⌝ }
+{
+    node::tests::has_rows(node);
+    if !node::tests::sound(node) {
+        return stopped(Reply::Refused(Refusal::Unsound));
+    }
+    if gossip_room < Stepped::GOSSIP {
+        return stopped(Reply::Refused(Refusal::ShortRow));
+    }
+    if event_room < Stepped::EVENTS {
+        return stopped(Reply::Refused(Refusal::ShortRow));
+    }
     let state = wait.state;
-    match state {
-        WaitState::SendingPing => pinging::send_ping(node, wait, tick, draws),
-        WaitState::WaitingForPingAck { target, number } => {
-            let next = WaitState::SendingPingReq { target, number };
-            rules::wait_for_ack(node, target, next, tick)
-        }
-        WaitState::SendingPingReq { target, number } => {
-            pinging::send_ping_req(node, wait, target, number, tick, draws)
-        }
-        WaitState::WaitingForPingReqAck { target, number } => {
-            let next = WaitState::Declaring { target, number };
-            rules::wait_for_ack(node, target, next, tick)
-        }
-        WaitState::Declaring { target, number } => {
-            rules::declare_node_as_dead(node, wait, target, number, tick)
-        }
+    if !in_range(state) {
+        return stopped(Reply::Refused(Refusal::AddressRange));
+    }
+    let settings = node.settings;
+    // Here now less start is a wrapping subtract of u32 ticks.
+    if !timers::is_over(wait_of(settings, state), tick, wait.since) {
+        return stopped(Reply::NotDue);
+    }
+    Tested {
+        due: true,
+        reply: Reply::Done(0),
     }
 }
 
-// The detector step: 2, 3, 5, not due, then the rules of its state.
+// The detector step: the tests, then the rules of its state.
 pub fn step(
     node: Node,
     wait: Wait,
@@ -172,26 +189,33 @@ pub fn step(
 ) -> Stepped
     ensures { λ r. ⌜ (r ≡ steppedOf (calls.detect ipv4 (storedView node) (toWait wait) tick (now (draws .entry)) (record { gossip = «gossip_room»; events = «event_room» }))) × (r .written ≤ «gossip_room») × (r .written ≤ 256) × (r .reported ≤ «event_room») × (r .reported ≤ 1) ⌝ }
 {
-    node::tests::has_rows(node);
-    if !node::tests::sound(node) {
-        return Stepped::plain(Reply::Refused(Refusal::Unsound), node, wait);
-    }
-    if gossip_room < Stepped::GOSSIP {
-        return Stepped::plain(Reply::Refused(Refusal::ShortRow), node, wait);
-    }
-    if event_room < Stepped::EVENTS {
-        return Stepped::plain(Reply::Refused(Refusal::ShortRow), node, wait);
+    let told = test_step(node, wait, tick, gossip_room, event_room);
+    let reply = told.reply;
+    if !told.due {
+        return Stepped::plain(reply, node, wait);
     }
     let state = wait.state;
-    if !in_range(state) {
-        return Stepped::plain(Reply::Refused(Refusal::AddressRange), node, wait);
+    match state {
+        WaitState::SendingPing => pinging::send_ping(node, wait, tick, draws),
+        WaitState::WaitingForPingAck { target, number } => {
+            let next = WaitState::SendingPingReq { target, number };
+            let members = node.members;
+            let after = rules::wait_for_ack(members, target, next, tick);
+            Stepped::plain(Reply::Done(0), node, after)
+        }
+        WaitState::SendingPingReq { target, number } => {
+            pinging::send_ping_req(node, wait, target, number, tick, draws)
+        }
+        WaitState::WaitingForPingReqAck { target, number } => {
+            let next = WaitState::Declaring { target, number };
+            let members = node.members;
+            let after = rules::wait_for_ack(members, target, next, tick);
+            Stepped::plain(Reply::Done(0), node, after)
+        }
+        WaitState::Declaring { target, number } => {
+            rules::declare_node_as_dead(node, wait, target, number, tick)
+        }
     }
-    let settings = node.settings;
-    // Here now less start is a wrapping subtract of u32 ticks.
-    if !timers::is_over(wait_of(settings, state), tick, wait.since) {
-        return Stepped::plain(Reply::NotDue, node, wait);
-    }
-    step_due(node, wait, tick, draws)
 }
 
 // The timer call: 2, 3, not due, then the earliest started that is over ends.

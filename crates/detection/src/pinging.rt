@@ -4,6 +4,7 @@ use crate::Wait;
 use crate::WaitState;
 use crate::mail::Mail;
 use address::Address;
+use member::Member;
 use model::Refusal;
 use model::Reply;
 use model::State;
@@ -197,25 +198,32 @@ pub fn send_ping_req(
     requires { ⌜ Ready node × (ipv4 .valid target ≡ true) ⌝ }
     ensures { λ r. ⌜ (r ≡ steppedOf (calls.keptStep ipv4 (storedView node) (toWait wait) (now (draws .entry)) (D.sendPingReq ipv4 target number tick (viewNode node) (now (draws .entry))))) × (r .written ≤ 256) × (r .reported ≤ 1) ⌝ }
 {
-    let changed = node.change(target, State::Suspected, number);
+    let members = node.members;
+    let changed = members.update_member(Member {
+        addr: target,
+        state: State::Suspected,
+        number,
+    });
     let suspected = Gossip {
         event: Event::new_node_suspected(node.own, target, number),
     };
-    let emitted = changed.emit_alive(suspected);
-    if emitted.full {
+    let alive = node.alive;
+    let pushed = disseminate::push(alive, suspected);
+    if pushed.full {
         return Stepped::plain(Reply::Refused(Refusal::HeapFull), node, wait);
     }
-    let said = emitted.node;
-    let settings = said.settings;
-    let members = said.members;
+    let settings = node.settings;
     let wanted = settings.ping_req_group_size;
-    let picked = members.get_member_list(said.own, Exclusion::Peer(target), wanted, draws, 0);
+    let picked = changed.get_member_list(node.own, Exclusion::Peer(target), wanted, draws, 0);
     let after = picked.members;
     let picks = picked.picks;
     let drew = picked.drew;
     match drew {
         Drew::Used(used) => {
-            let turned = said.with_members(after);
+            let living = pushed.heap;
+            let deceased = node.deceased;
+            let listed = node.with_members(after);
+            let turned = listed.with_heaps(living, deceased);
             ask_group(turned, picks, target, number, suspected, used, tick)
         }
         Drew::Refused(refusal) => Stepped::plain(Reply::Refused(refusal), node, wait),

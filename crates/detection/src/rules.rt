@@ -3,6 +3,7 @@ use crate::Stepped;
 use crate::Wait;
 use crate::WaitState;
 use address::Address;
+use member::Members;
 use model::Refusal;
 use model::Reply;
 use model::State;
@@ -16,16 +17,16 @@ ghost use Rattle.model.specs.IPv4.{ipv4};
 ghost use Rattle.model.specs.Rows.{pick};
 ghost use Rattle.model.specs.Detector as D;
 ghost use Rattle.model.specs.Calls as calls;
+ghost use Rattle.member.specs.Views.{Held};
 ghost use Rattle.node.specs.Views.{storedView, viewNode};
 ghost use Rattle.node.specs.Rows.{Ready};
-ghost use Rattle.detection.specs.Views.{toWait, steppedOf, plainStep};
+ghost use Rattle.detection.specs.Views.{toWait, steppedOf, heardIn};
 
 // Alive or absent: it has answered, or it is gone.
-fn heard(node: Node, target: Address) -> bool
-    requires { ⌜ Ready node ⌝ }
-    ensures { λ r. ⌜ r ≡ D.heard ipv4 target (viewNode node) ⌝ }
+fn heard(members: Members, target: Address) -> bool
+    requires { ⌜ Held members ⌝ }
+    ensures { λ r. ⌜ r ≡ heardIn members target ⌝ }
 {
-    let members = node.members;
     if !members.lists(target) {
         return true;
     }
@@ -38,21 +39,17 @@ fn heard(node: Node, target: Address) -> bool
 }
 
 // The wait for an answer is over: back to SendingPing if it was heard of, else on to the next state.
-pub fn wait_for_ack(node: Node, target: Address, next: WaitState, tick: u32) -> Stepped
-    requires { ⌜ Ready node ⌝ }
-    ensures { λ r. ⌜ r ≡ plainStep (Reply.Done 0) node (record { state = pick (D.heard ipv4 target (viewNode node)) WaitState.SendingPing next; since = tick }) ⌝ }
+pub fn wait_for_ack(members: Members, target: Address, next: WaitState, tick: u32) -> Wait
+    requires { ⌜ Held members ⌝ }
+    ensures { λ r. ⌜ r ≡ record { state = pick (heardIn members target) WaitState.SendingPing next; since = tick } ⌝ }
 {
-    if heard(node, target) {
-        return Stepped::plain(Reply::Done(0), node, Wait::new(tick));
+    if heard(members, target) {
+        return Wait::new(tick);
     }
-    Stepped::plain(
-        Reply::Done(0),
-        node,
-        Wait {
-            state: next,
-            since: tick,
-        },
-    )
+    Wait {
+        state: next,
+        since: tick,
+    }
 }
 
 // A declaration timer is started, or 16 are running: 10.

@@ -3,29 +3,22 @@
 use mathlib.Core.Path.{ap, sym, _∙_}
 use mathlib.Core.Bool.{Bool}
 use borrow.Author.Needs.{needs}
-use Rattle.model.specs.declared.Reply.the-variants.{Done}
 use Rattle.model.specs.Rows.{pick}
 use Rattle.detection.specs.declared.WaitState.the-variants.{SendingPing}
-use Rattle.detection.specs.Views.{plainStep}
+use Rattle.detection.specs.declared.Wait.{Wait}
 use Rattle.detection.proofs.rules.wait_for_ack.Statement.{statement}
 use Rattle.detection.proofs.rules.wait_for_ack.Tie as tie
 
 returns : tie.Need-returns
 returns c =
-    let t = c .before .before in
+    let t = c .before in
     let a = t .before .before .args in
-    c .plain .ensures
-    ∙ ap (plainStep (Done 0) (a .node)) (c .before .new .ensures)
-    ∙ ap (λ (u : Bool). plainStep (Done 0) (a .node) (record { state = pick u SendingPing (a .next); since = a .tick })) (sym (sym (t .before .heard .ensures) ∙ t .if1 .taken))
+    c .new .ensures ∙ ap {B = Wait} (λ (u : Bool). record { state = pick u SendingPing (a .next); since = a .tick }) (sym (sym (t .before .heard .ensures) ∙ t .if1 .taken))
 
 returns-2 : tie.Need-returns-2
 returns-2 c =
-    let t = c .before in
-    let a = t .before .before .args in
-    c .plain2 .ensures
-    ∙ ap (λ (u : Bool). plainStep (Done 0) (a .node) (record { state = pick u SendingPing (a .next); since = a .tick })) (sym (sym (t .before .heard .ensures) ∙ t .if1 .left))
+    let a = c .before .before .args in
+    ap {B = Wait} (λ (u : Bool). record { state = pick u SendingPing (a .next); since = a .tick }) (sym (sym (c .before .heard .ensures) ∙ c .if1 .left))
 
 pub wait-for-ack-spec : {M : Type 1} → statement M
-wait-for-ack-spec =
-    tie.close
-    (tie.spec (λ c κs. search needs) (λ c κs. search needs) (λ c κs. search needs) returns (λ c κs. search needs) returns-2)
+wait-for-ack-spec = tie.close (tie.spec (λ c κs. search needs) (λ c κs. search needs) returns returns-2)
