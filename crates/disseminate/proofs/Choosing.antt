@@ -117,8 +117,8 @@ module _ (t : Terms) where
           before : length (choiceView c .chosen) ≡ c .chosen .count
           before = chosen-length (c .chosen) (g .ready .chosen)
 
-          pub ends-stop : b .chosen .count ≡ c .chosen .count → c ≡ packChoice goal
-          ends-stop e = reached (sym (rounds-stop (toTerms t) (choiceView c) (left - 1) o (many ∙ e ∙ sym before)) ∙ this)
+          pub ends-stop : b .chosen .count ≡ c .chosen .count → b ≡ packChoice goal
+          ends-stop e = pack-choice t b ready ∙ ap packChoice (round ∙ sym (rounds-stop (toTerms t) (choiceView c) (left - 1) o (many ∙ e ∙ sym before)) ∙ this)
 
           pub goes-on : (b .chosen .count ≡ c .chosen .count → ⊥) → Going goal b (left - 1)
           goes-on n =

@@ -131,11 +131,17 @@ module _ (t : Terms) (m : Choice ℕ) where
   rounds-over f p = stepped f true (gave ipv4 first || gave ipv4 second) p refl
 
   -- where as many are chosen as before, neither heap gave one
-  pub rounds-stop : (f : ℕ) → over ipv4 t m ≡ false → length (turned .chosen) ≡ length (m .chosen) → rounds ipv4 (suc f) t m ≡ m
+  unturned : (a b : Option (Taken ℕ)) → length (afterDeceased ipv4 (afterAlive ipv4 m a) b .chosen) ≡ length (m .chosen) → m ≡ afterDeceased ipv4 (afterAlive ipv4 m a) b
+  unturned none none e = refl
+  unturned none (some k) e = absurd (omega (arith, taken-by none (some k)))
+  unturned (some j) none e = absurd (omega (arith, taken-by (some j) none))
+  unturned (some j) (some k) e = absurd (omega (arith, taken-by (some j) (some k)))
+
+  pub rounds-stop : (f : ℕ) → over ipv4 t m ≡ false → length (turned .chosen) ≡ length (m .chosen) → rounds ipv4 (suc f) t m ≡ turned
   rounds-stop f p e =
       let a : one (gave ipv4 first) ≡ 0 = omega (arith, taken-by first second) in
       let b : one (gave ipv4 second) ≡ 0 = omega (arith, taken-by first second) in
-      stepped f false false p (neither (gave ipv4 first) (gave ipv4 second) a b)
+      stepped f false false p (neither (gave ipv4 first) (gave ipv4 second) a b) ∙ unturned first second e
 
   pub rounds-more : (f : ℕ) → over ipv4 t m ≡ false → (length (turned .chosen) ≡ length (m .chosen) → ⊥) → rounds ipv4 (suc f) t m ≡ rounds ipv4 f t turned
   rounds-more f p n =

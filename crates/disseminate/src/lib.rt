@@ -302,17 +302,19 @@ pub fn choose(alive: Heap, deceased: Heap, t: Terms) -> Choice
         if over(a.len + d.len, from_alive, from_deceased, t) {
             break;
         }
-        let x = try_heap(a, n, t);
-        let between = x.chosen;
-        let y = try_heap(d, between, t);
-        if y.chosen.count == n.count {
+        let before = n.count;
+        // Both tries share one place on the stack.
+        let mut tried = try_heap(a, n, t);
+        a = tried.heap;
+        n = tried.chosen;
+        from_alive = plus(from_alive, tried.gave);
+        tried = try_heap(d, n, t);
+        d = tried.heap;
+        n = tried.chosen;
+        from_deceased = plus(from_deceased, tried.gave);
+        if n.count == before {
             break;
         }
-        a = x.heap;
-        d = y.heap;
-        n = y.chosen;
-        from_alive = plus(from_alive, x.gave);
-        from_deceased = plus(from_deceased, y.gave);
         left -= 1;
     }
     Choice {

@@ -47,25 +47,26 @@ try-heap-requires c κs =
 
 try-heap-requires-2 : tie.Need-try-heap-requires-2 Inv-loop μ-loop
 try-heap-requires-2 c κs =
-    let x = c .before in
+    let x = c .before .before .before in
     let l = x .before .before .before .before .before .before in
     open-deceased (l .before .before .args .t) _ (alive-tried (l .before .before .args .t) _ (l .loop .inv .1 .ready) (x .try-heap .result) (x .try-heap .ensures) .1)
 
 plus-requires : tie.Need-plus-requires Inv-loop μ-loop
 plus-requires c κs =
-    let l = c .before .before .before .before .before .before .before .before .before .before .before .before .before .before in
+    let l = c .before .before .before .before .before .before .before .before in
     counts-fit (l .before .before .args .t) _ (l .loop .inv .1 .ready) .0
 
 plus-requires-2 : tie.Need-plus-requires-2 Inv-loop μ-loop
 plus-requires-2 c κs =
-    let l = c .before .before .before .before .before .before .before .before .before .before .before .before .before .before .before in
+    let l = c .before .before .before .before .before .before .before .before .before .before .before .before in
     counts-fit (l .before .before .args .t) _ (l .loop .inv .1 .ready) .1
 
 loop-again : tie.Need-loop-again Inv-loop μ-loop
 loop-again c =
-    let e = c .before .before .before .before .before in
-    let y = e .before .before .before in
-    let x = y .before .before in
+    let w = c .before .before in
+    let y = w .before .before .before in
+    let v = y .before in
+    let x = v .before .before .before in
     let o = x .before in
     let i = o .before .before .before .before in
     let l = i .before in
@@ -74,8 +75,8 @@ loop-again c =
     let p = alive-tried t k (l .loop .inv .1 .ready) (x .try-heap .result) (x .try-heap .ensures) in
     let q = deceased-tried t (with-alive k (x .try-heap .result)) (p .1) (y .try-heap2 .result) (y .try-heap2 .ensures) in
     let next : Choice = with-deceased (with-alive k (x .try-heap .result)) (y .try-heap2 .result) in
-    let same : next ≡ choice (x .try-heap .result .heap) (y .try-heap2 .result .heap) (y .try-heap2 .result .chosen) (c .before .plus .result) (c .plus2 .result) =
-    λ j. choice (x .try-heap .result .heap) (y .try-heap2 .result .heap) (y .try-heap2 .result .chosen) (sym (c .before .plus .ensures) j) (sym (c .plus2 .ensures) j) in (
+    let same : next ≡ choice (x .try-heap .result .heap) (y .try-heap2 .result .heap) (y .try-heap2 .result .chosen) (v .plus .result) (w .plus2 .result) =
+    λ j. choice (x .try-heap .result .heap) (y .try-heap2 .result .heap) (y .try-heap2 .result .chosen) (sym (v .plus .ensures) j) (sym (w .plus2 .ensures) j) in (
       search needs,
       subst (λ (m : Choice). Going t (choose ipv4 (toTerms t) (heapView (l .before .before .args .alive)) (heapView (l .before .before .args .deceased))) m (l .loop .left - 1)) same
           (goes-on t _ k (l .loop .left) (l .loop .inv .1) (i .loop-test .taken)
@@ -85,7 +86,7 @@ loop-again c =
           (p .0)
           (q .0)
           (q .1)
-          (e .if2 .left)),
+          (c .if2 .left)),
     )
 
 returns : tie.Need-returns Inv-loop μ-loop
@@ -101,8 +102,10 @@ returns-2 c =
 
 returns-3 : tie.Need-returns-3 Inv-loop μ-loop
 returns-3 c =
-    let y = c .before .before .before in
-    let x = y .before .before in
+    let w = c .before .before in
+    let y = w .before .before .before in
+    let v = y .before in
+    let x = v .before .before .before in
     let o = x .before in
     let i = o .before .before .before .before in
     let l = i .before in
@@ -110,10 +113,14 @@ returns-3 c =
     let k : Choice = choice (l .loop .a) (l .loop .d) (l .loop .n) (l .loop .from-alive) (l .loop .from-deceased) in
     let p = alive-tried t k (l .loop .inv .1 .ready) (x .try-heap .result) (x .try-heap .ensures) in
     let q = deceased-tried t (with-alive k (x .try-heap .result)) (p .1) (y .try-heap2 .result) (y .try-heap2 .ensures) in
-    ends-stop t _ k (l .loop .left) (l .loop .inv .1) (i .loop-test .taken)
+    let next : Choice = with-deceased (with-alive k (x .try-heap .result)) (y .try-heap2 .result) in
+    let same : next ≡ choice (x .try-heap .result .heap) (y .try-heap2 .result .heap) (y .try-heap2 .result .chosen) (v .plus .result) (w .plus2 .result) =
+    λ j. choice (x .try-heap .result .heap) (y .try-heap2 .result .heap) (y .try-heap2 .result .chosen) (sym (v .plus .ensures) j) (sym (w .plus2 .ensures) j) in
+    sym same
+    ∙ ends-stop t _ k (l .loop .left) (l .loop .inv .1) (i .loop-test .taken)
     (sym (over-is t k _ (l .loop .inv .1 .ready) (o .before .over .ensures)) ∙ o .if1 .left)
     (with-alive k (x .try-heap .result))
-    (with-deceased (with-alive k (x .try-heap .result)) (y .try-heap2 .result))
+    next
     (p .0)
     (q .0)
     (q .1)
@@ -130,8 +137,8 @@ choose-spec =
     add-over
     (λ c κs. search needs)
     try-heap-requires
-    try-heap-requires-2
     plus-requires
+    try-heap-requires-2
     plus-requires-2
     (λ c. search needs)
     (λ c. search needs)
