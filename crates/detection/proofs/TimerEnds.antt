@@ -20,6 +20,7 @@ use Rattle.model.specs.Answers.{Answer}
 use Rattle.model.specs.Pad.{length-removeAt}
 use Rattle.model.specs.IPv4.{ipv4, ipv4-lawful}
 use Rattle.model.specs.Words as W
+use Rattle.model.specs.Members as list
 use Rattle.model.specs.Node as M
 use Rattle.model.specs.Detector as D
 use Rattle.model.specs.Sound.{sound}
@@ -36,11 +37,16 @@ use Rattle.timers.specs.declared.Timer.{Timer}
 use Rattle.timers.specs.declared.Timers.{Timers}
 use Rattle.timers.specs.Views.{toTimer, fromTimer, noTimer, timersView, packTimers, endingOf}
 use Rattle.timers.specs.declared.Ending.the-variants.{Nothing, At}
+use Rattle.heap.specs.Views.{heapView}
+use Rattle.disseminate.specs.declared.Pushed.{Pushed}
+use Rattle.disseminate.specs.Views.{heldOr}
+use Rattle.member.specs.declared.Members.{Members}
+use Rattle.member.specs.Views.{packMembers, viewMembers}
 use Rattle.node.specs.declared.Node.{Node}
 use Rattle.node.specs.declared.parts.Emitted.{Emitted}
-use Rattle.node.specs.Views.{viewNode, packNode, storedView, withTimers, emittedOf, plainAnswer, answerOf}
+use Rattle.node.specs.Views.{viewNode, packNode, storedView, withMembers, withHeaps, withTimers, emittedOf, plainAnswer, answerOf}
 use Rattle.node.specs.Rows.{Ready, ready-pack, loaded-view}
-use Rattle.node.specs.Parts.{part-timers}
+use Rattle.node.specs.Parts.{part-members, part-timers, emitted-deceased}
 use Rattle.node.specs.Ends.{test-fails, test-passes, kept-is}
 use Rattle.detection.specs.declared.Ended.{Ended}
 use Rattle.detection.specs.Views.{endedOf, plainEnd}
@@ -78,11 +84,11 @@ module _ (n : Node) (r : Ready n) (i : ℕ) (h : i < n .timers .len) where
       with-timers ipv4 (viewNode n) (removeAt (viewNode n .timers) i) (r .good) (omega (arith, length-removeAt (viewNode n .timers) i few, r .good .few))
       (every-removeAt (λ (t : W.Timer ℕ). ipv4 .valid (t .addr)) (viewNode n .timers) i (r .good .timers))
 
-  pub fewer-is : (m : Node) (t : Timers) → t ≡ packTimers (removeAt (timersView (n .timers)) i) → m ≡ withTimers n t → m ≡ packNode fewer
+  fewer-is : (t : Timers) → t ≡ packTimers (removeAt (timersView (n .timers)) i) → withTimers n t ≡ packNode fewer
   unfolding viewNode
-  fewer-is m t e f = f ∙ part-timers n r (removeAt (viewNode n .timers) i) t e
+  fewer-is t e = part-timers n r (removeAt (viewNode n .timers) i) t e
 
-  pub fewer-ready : (m : Node) → m ≡ packNode fewer → Ready m
+  fewer-ready : (m : Node) → m ≡ packNode fewer → Ready m
   fewer-ready m e = rw e (ready-pack fewer fewer-good)
 
   -- the timer that ends
@@ -99,14 +105,37 @@ module _ (n : Node) (r : Ready n) (i : ℕ) (h : i < n .timers .len) where
         | false ↦ λ e. fewer-good
       ]) refl
 
-  pub gone-is : (m l : Node) → m ≡ packNode fewer
-      → l ≡ packNode (pick (M.lists ipv4 (ending .addr) (viewNode m)) (M.leave ipv4 (ending .addr) (viewNode m)) (viewNode m)) → l ≡ packNode gone
-  gone-is m l e f =
-      f
-      ∙ ap (λ (x : M.Node ℕ). packNode (pick (M.lists ipv4 (ending .addr) x) (M.leave ipv4 (ending .addr) x) x)) (ap viewNode e ∙ view-pack fewer fewer-good)
+  -- the node of which the code makes the timers and the list
+  abbrev pub left : Timers → Members → Node
+  left t u = withMembers (withTimers n t) u
 
-  pub gone-ready : (l : Node) → l ≡ packNode gone → Ready l
+  leaves : (a : ℕ) (s : M.Node ℕ) (u : Bool) → M.withMembers s (pick u (list.remove (ipv4 .same) a (s .members)) (s .members)) ≡ pick u (M.leave ipv4 a s) s
+  unfolding M.leave
+  leaves a s true = refl
+  leaves a s false = refl
+
+  pub gone-is : (t : Timers) (u : Members) → t ≡ packTimers (removeAt (timersView (n .timers)) i)
+      → u ≡ packMembers (pick (list.listed (ipv4 .same) (ending .addr) (viewMembers (n .members) .table)) (list.remove (ipv4 .same) (ending .addr) (viewMembers (n .members))) (viewMembers (n .members)))
+      → left t u ≡ packNode gone
+  unfolding viewNode
+  gone-is t u e f =
+      let m = withTimers n t in
+      part-members m (fewer-ready m (fewer-is t e)) (pick (list.listed (ipv4 .same) (ending .addr) (viewMembers (n .members) .table)) (list.remove (ipv4 .same) (ending .addr) (viewMembers (n .members))) (viewMembers (n .members))) u f
+      ∙ ap packNode (leaves (ending .addr) (viewNode m) (M.lists ipv4 (ending .addr) (viewNode m)))
+      ∙ ap (λ (x : M.Node ℕ). packNode (pick (M.lists ipv4 (ending .addr) x) (M.leave ipv4 (ending .addr) x) x)) (ap viewNode (fewer-is t e) ∙ view-pack fewer fewer-good)
+
+  gone-ready : (l : Node) → l ≡ packNode gone → Ready l
   gone-ready l e = rw e (ready-pack gone gone-good)
+
+  -- and the heap
+  abbrev pub emitted : Timers → Members → Pushed → Emitted
+  emitted t u p = record { node = withHeaps (left t u) (n .alive) (p .heap); full = p .full }
+
+  pub emitted-is : (g : Gossip) (t : Timers) (u : Members) (p : Pushed) → left t u ≡ packNode gone → p ≡ heldOr (n .deceased) (M.pushed ipv4 (toGossip g) (heapView (n .deceased)) [])
+      → emitted t u p ≡ emittedOf (left t u) (M.emitDeceased ipv4 (toGossip g) (viewNode (left t u)) [])
+  unfolding M.emitDeceased viewNode
+  emitted-is g t u p e f =
+      emitted-deceased (left t u) (gone-ready (left t u) e) (toGossip g) (M.pushed ipv4 (toGossip g) (heapView (n .deceased)) []) p (withHeaps (left t u) (n .alive) (p .heap)) f refl
 
   here : getD (viewNode n .timers) i (W.noTimer ipv4) ≡ toTimer ending
   unfolding viewNode

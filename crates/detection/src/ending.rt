@@ -2,6 +2,7 @@
 use crate::Ended;
 use crate::Stepped;
 use address::Address;
+use member::Members;
 use model::Refusal;
 use model::Reply;
 use node::Answer;
@@ -13,23 +14,23 @@ ghost use mathlib.Core.List.{[]};
 ghost use Prim.Native.Nat.{_≤_, _<_};
 ghost use Rattle.model.specs.IPv4.{ipv4};
 ghost use Rattle.model.specs.Rows.{pick};
-ghost use Rattle.model.specs.Node as M;
+ghost use Rattle.model.specs.Members as list;
 ghost use Rattle.model.specs.Detector as D;
 ghost use Rattle.model.specs.Calls as calls;
-ghost use Rattle.node.specs.Views.{storedView, viewNode, packNode};
+ghost use Rattle.member.specs.Views.{Held, viewMembers, packMembers};
+ghost use Rattle.node.specs.Views.{storedView, viewNode};
 ghost use Rattle.node.specs.Rows.{Ready};
 ghost use Rattle.detection.specs.Views.{endedOf};
 
 // An address is removed if it is listed.
-fn without(node: Node, a: Address) -> Node
-    requires { ⌜ Ready node ⌝ }
-    ensures { λ r. ⌜ r ≡ packNode (pick (M.lists ipv4 a (viewNode node)) (M.leave ipv4 a (viewNode node)) (viewNode node)) ⌝ }
+fn without(members: Members, a: Address) -> Members
+    requires { ⌜ Held members ⌝ }
+    ensures { λ r. ⌜ r ≡ packMembers (pick (list.listed (ipv4 .same) a (viewMembers members .table)) (list.remove (ipv4 .same) a (viewMembers members)) (viewMembers members)) ⌝ }
 {
-    let members = node.members;
     if members.lists(a) {
-        return node.leave(a);
+        return members.remove_member(a);
     }
-    node
+    members
 }
 
 // The timer at a place ends: its address is removed, Deceased emitted at its number, its place reused.
@@ -41,18 +42,24 @@ pub fn end_at(node: Node, place: usize) -> Ended
     let entries = timers.entries;
     let timer = entries[place];
     let after = timers.end(place);
-    let left = without(node.with_timers(after), timer.addr);
-    let deceased = Gossip {
+    let members = node.members;
+    let left = without(members, timer.addr);
+    let gossip = Gossip {
         event: Event::new_node_deceased(node.own, timer.addr, timer.number),
     };
-    let emitted = left.emit_deceased(deceased);
-    if emitted.full {
+    let deceased = node.deceased;
+    let pushed = disseminate::push(deceased, gossip);
+    if pushed.full {
         return Ended::plain(Reply::Refused(Refusal::HeapFull), node);
     }
-    let dead = emitted.node;
-    let events = [deceased; Stepped::EVENTS];
+    let alive = node.alive;
+    let dead = pushed.heap;
+    let fewer = node.with_timers(after);
+    let gone = fewer.with_members(left);
+    let said = gone.with_heaps(alive, dead);
+    let events = [gossip; Stepped::EVENTS];
     Ended {
-        answer: Answer::plain(Reply::Done(0), dead),
+        answer: Answer::plain(Reply::Done(0), said),
         events,
         reported: 1,
     }

@@ -226,6 +226,6 @@ pub fn send_ping_req(
             let turned = listed.with_heaps(living, deceased);
             ask_group(turned, picks, target, number, suspected, used, tick)
         }
-        Drew::Refused(refusal) => Stepped::plain(Reply::Refused(refusal), node, wait),
+        Drew::Refused(missed) => Stepped::plain(Reply::Refused(missed), node, wait),
     }
 }
