@@ -1,14 +1,12 @@
 -- DEMAND 3, OF THE PROGRAM. Of every run of calls of `swim` from a created node and a fresh wait record at any tick, and of every address. The ledger is 01's, of the calls alone;
 -- the node is the one that the last call handed back.
 -- Assumes nothing.
-use mathlib.Core.Path.{_≡_, refl, sym, _∙_, ap}
+use mathlib.Core.Path.{_≡_, sym, _∙_, ap}
 use mathlib.Core.Bool.{true, false}
 use mathlib.Core.List.{List}
 use Prim.Native.Nat.{ℕ, _+_}
-use native.Mathlib.Omega.{arith}
 use lib.Dec.{leb}
-use Rattle.model.specs.declared.Reply.{Reply}
-use Rattle.model.specs.declared.Reply.the-variants.{Done, Already, NotDue, Refused}
+use Rattle.model.specs.declared.Reply.the-variants.{Done}
 use Rattle.model.specs.declared.Settings.{Settings}
 use Rattle.model.specs.Rows.{one, occurs}
 use Rattle.model.specs.IPv4.{ipv4, ipv4-lawful}
@@ -25,24 +23,19 @@ use Rattle.history.specs.Auditor as auditor
 use Rattle.history.specs.Auditor.{Cause, Left, Everywhere}
 use Rattle.node.specs.declared.Node.{Node}
 use Rattle.node.specs.declared.Answer.{Answer}
-use Rattle.node.specs.Views.{storedView, viewNode, unstored, createdOf}
+use Rattle.node.specs.Views.{storedView, viewNode, createdOf}
 use Rattle.node.specs.Rows.{loaded-view}
 use Rattle.detection.specs.declared.Wait.{Wait}
 use Rattle.detection.specs.Views.{freshWait}
 use Rattle.swim.specs.Contracts.{Creates}
+use Rattle.promises.specs.Replies.{done-apart}
 use Rattle.promises.specs.Runs.{Runs, world, runs-is, stored-unstored}
-
-kind : Reply → ℕ
-kind (Done used) = 0
-kind Already = 1
-kind NotDue = 2
-kind (Refused r) = 3
 
 -- creation gave a node: it is the one of the rules
 created-node : (settings : Settings) (own number : ℕ) (r : Answer) (c : calls.Created ℕ) → r ≡ createdOf c → r .reply ≡ Done 0 → c ≡ calls.created (storedView (r .node))
-unfolding createdOf kind
+unfolding createdOf
 created-node settings own number r (calls.created s) e said = ap calls.created (sym ((λ i. storedView (e i .node)) ∙ stored-unstored s))
-created-node settings own number r (calls.notCreated x) e said = let z : _≡_ {A = ℕ} 3 0 = ap kind (sym (λ i. e i .reply) ∙ said) in absurd (omega arith)
+created-node settings own number r (calls.notCreated x) e said = done-apart (sym said ∙ (λ i. e i .reply))
 
 module _ (settings : Settings) (own number tick : ℕ) (r : Answer) (met : Creates settings own number r) (accepted : r .reply ≡ Done 0)
     (cs : List (Call ℕ)) (node : Node) (wait : Wait) (runs : Runs (r .node) (freshWait tick) cs node wait) (a : ℕ) where

@@ -9,9 +9,9 @@ use native.Mathlib.Omega.{arith}
 use lib.ListN.{length}
 use Rattle.model.specs.declared.Refusal.{Refusal}
 use Rattle.model.specs.declared.Reply.{Reply}
-use Rattle.model.specs.declared.Reply.the-variants.{Done, Already, NotDue, Refused}
+use Rattle.model.specs.declared.Reply.the-variants.{Refused}
 use Rattle.model.specs.declared.Settings.{Settings}
-use Rattle.model.specs.Answers.{Answer, done, refused, numberOf}
+use Rattle.model.specs.Answers.{Answer, numberOf}
 use Rattle.model.specs.IPv4.{ipv4}
 use Rattle.model.specs.Words as W
 use Rattle.model.specs.Node as M
@@ -29,6 +29,7 @@ use Rattle.detection.specs.declared.Wait.{Wait}
 use Rattle.detection.specs.Views.{toWait}
 use Rattle.swim.specs.declared.Outcome.{Outcome}
 use Rattle.swim.specs.Contracts.{room, outcomeOf, Creates, Adds, Receives, Steps, EndsTimer}
+use Rattle.promises.specs.Replies.{done-apart, already-apart, not-due-apart, same-refusal}
 use Rattle.promises.specs.Late.{Late, gives, stops, joins-late, handle-late, step-late, end-late}
 
 -- the first test of a list that fails gives x
@@ -41,25 +42,12 @@ pub record Decided (ts : List (Bool × Refusal)) (reply : Reply) (x : Refusal) :
   pub only-if : reply ≡ Refused x → FirstFails x ts
   pub if : FirstFails x ts → reply ≡ Refused x
 
-refusalOf : Reply → Refusal → Refusal
-refusalOf (Done used) x = x
-refusalOf Already x = x
-refusalOf NotDue x = x
-refusalOf (Refused r) x = r
-
-kind : Reply → ℕ
-kind (Done used) = 0
-kind Already = 1
-kind NotDue = 2
-kind (Refused r) = 3
-
 module _ {B : Type 0} (replyOf : B → Reply) (refuse : Refusal → B) (says : (r : Refusal) → replyOf (refuse r) ≡ Refused r) (go : B) (x : Refusal) (never : replyOf go ≡ Refused x → ⊥) where
   early : (ts : List (Bool × Refusal)) → replyOf (calls.firstOf ts refuse go) ≡ Refused x → FirstFails x ts
-  unfolding refusalOf
   early [] e = absurd (never e)
   early (t ∷ ts) e =
       (elim (t .0) as (λ u. t .0 ≡ u → replyOf (elim u [ true ↦ refuse (t .1) | false ↦ calls.firstOf ts refuse go ]) ≡ Refused x → FirstFails x (t ∷ ts)) [
-        | true ↦ λ p q. fails p (ap (λ (r : Reply). refusalOf r x) (sym (says (t .1)) ∙ q))
+        | true ↦ λ p q. fails p (same-refusal (sym (says (t .1)) ∙ q))
         | false ↦ λ p q. passes p (early ts q)
       ]) refl e
 
@@ -82,11 +70,10 @@ pub record Reached (ts : List (Bool × Refusal)) (after reply : Reply) (x : Refu
 
 module _ {B : Type 0} (replyOf : B → Reply) (refuse : Refusal → B) (says : (r : Refusal) → replyOf (refuse r) ≡ Refused r) (go : B) (x : Refusal) (high : 6 ≤ numberOf x) where
   beyond : (ts : List (Bool × Refusal)) → Low ts → replyOf (calls.firstOf ts refuse go) ≡ Refused x → Passed ts × (replyOf go ≡ Refused x)
-  unfolding refusalOf
   beyond [] low e = (tt, e)
   beyond (t ∷ ts) low e =
       (elim (t .0) as (λ u. t .0 ≡ u → replyOf (elim u [ true ↦ refuse (t .1) | false ↦ calls.firstOf ts refuse go ]) ≡ Refused x → Passed (t ∷ ts) × (replyOf go ≡ Refused x)) [
-        | true ↦ λ p q. let z : t .1 ≡ x = ap (λ (r : Reply). refusalOf r x) (sym (says (t .1)) ∙ q) in absurd (omega (arith, high, low .0, ap numberOf z))
+        | true ↦ λ p q. let z : t .1 ≡ x = same-refusal (sym (says (t .1)) ∙ q) in absurd (omega (arith, high, low .0, ap numberOf z))
         | false ↦ λ p q. let b = beyond ts (low .1) q in ((p, b .0), b .1)
       ]) refl e
 
@@ -100,34 +87,29 @@ module _ {B : Type 0} (replyOf : B → Reply) (refuse : Refusal → B) (says : (
 -- ---- what comes after the tests gives none of 1 to 5
 module _ (s : M.Stored ℕ) (x : Refusal) (low : numberOf x < 6) where
   kept-never : (ds : List ℕ) (a : Answer (M.Effect ℕ)) → Late a → calls.kept ipv4 s ds a .reply ≡ Refused x → ⊥
-  unfolding refusalOf kind
-  kept-never ds _ (stops {r = r} l) e = let z : r ≡ x = ap (λ (v : Reply). refusalOf v x) e in absurd (omega (arith, low, l, ap numberOf z))
-  kept-never ds _ gives e = let z : _≡_ {A = ℕ} 0 3 = ap kind e in absurd (omega arith)
+  kept-never ds _ (stops {r = r} l) e = let z : r ≡ x = same-refusal e in absurd (omega (arith, low, l, ap numberOf z))
+  kept-never ds _ gives e = done-apart e
 
   step-never : (w : W.Wait ℕ) (ds : List ℕ) (a : Answer (D.Stepped ℕ)) → Late a → calls.keptStep ipv4 s w ds a .outcome .reply ≡ Refused x → ⊥
-  unfolding refusalOf kind
-  step-never w ds _ (stops {r = r} l) e = let z : r ≡ x = ap (λ (v : Reply). refusalOf v x) e in absurd (omega (arith, low, l, ap numberOf z))
-  step-never w ds _ gives e = let z : _≡_ {A = ℕ} 0 3 = ap kind e in absurd (omega arith)
+  step-never w ds _ (stops {r = r} l) e = let z : r ≡ x = same-refusal e in absurd (omega (arith, low, l, ap numberOf z))
+  step-never w ds _ gives e = done-apart e
 
   already-never : (a n : ℕ) (ds : List ℕ) → calls.orAlready (M.lists ipv4 a (M.loaded s)) s (calls.kept ipv4 s ds (calls.joins ipv4 a n (M.loaded s) ds)) .reply ≡ Refused x → ⊥
-  unfolding kind
   already-never a n ds =
       elim (M.lists ipv4 a (M.loaded s)) as (λ t. calls.orAlready t s (calls.kept ipv4 s ds (calls.joins ipv4 a n (M.loaded s) ds)) .reply ≡ Refused x → ⊥) [
-        | true ↦ λ e. let z : _≡_ {A = ℕ} 1 3 = ap kind e in absurd (omega arith)
+        | true ↦ λ e. already-apart e
         | false ↦ kept-never ds _ (joins-late ipv4 a n (M.loaded s) ds)
       ]
 
   due-never : (w : W.Wait ℕ) (now : ℕ) (ds : List ℕ) → calls.whenDue (D.due (s .settings) w now) s w (calls.keptStep ipv4 s w ds (D.step ipv4 (w .state) now (M.loaded s) ds)) .outcome .reply ≡ Refused x → ⊥
-  unfolding kind
   due-never w now ds =
       elim (D.due (s .settings) w now) as (λ t. calls.whenDue t s w (calls.keptStep ipv4 s w ds (D.step ipv4 (w .state) now (M.loaded s) ds)) .outcome .reply ≡ Refused x → ⊥) [
         | true ↦ step-never w ds _ (step-late ipv4 (w .state) now (M.loaded s) ds)
-        | false ↦ λ e. let z : _≡_ {A = ℕ} 2 3 = ap kind e in absurd (omega arith)
+        | false ↦ λ e. not-due-apart e
       ]
 
   over-never : (i : Option ℕ) → calls.endsAt ipv4 s i .reply ≡ Refused x → ⊥
-  unfolding kind
-  over-never none e = let z : _≡_ {A = ℕ} 2 3 = ap kind e in absurd (omega arith)
+  over-never none e = not-due-apart e
   over-never (some i) e = kept-never [] _ (end-late ipv4 i (M.loaded s) []) e
 
 -- ---- the calls, as a program makes them
@@ -156,10 +138,10 @@ afterTimer node tick = calls.endsAt ipv4 (storedView node) (D.firstOver ipv4 (no
 
 module _ (x : Refusal) where
   pub create-exactly : (settings : Settings) (own number : ℕ) (r : NodeAnswer) → Creates settings own number r → Decided (calls.createTests ipv4 settings own) (r .reply) x
-  unfolding calls.create createdOf kind
+  unfolding calls.create createdOf
   create-exactly settings own number r met =
       as-answered (λ i. met .answer i .reply)
-      (decided (λ (c : calls.Created ℕ). createdOf c .reply) calls.notCreated (λ y. refl) _ x (λ e. let z : _≡_ {A = ℕ} 0 3 = ap kind e in absurd (omega arith)) (calls.createTests ipv4 settings own))
+      (decided (λ (c : calls.Created ℕ). createdOf c .reply) calls.notCreated (λ y. refl) _ x (λ e. done-apart e) (calls.createTests ipv4 settings own))
 
   module _ (low : numberOf x < 6) where
     pub add-exactly : (node : Node) (a number : ℕ) (draws : List ℕ) (r : NodeAnswer) → Adds node a number draws r → Decided (calls.addTests ipv4 (storedView node) a) (r .reply) x

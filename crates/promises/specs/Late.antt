@@ -1,6 +1,5 @@
 -- The rules, once a call's tests are passed, refuse by 6 to 10 alone. For any type of address.
 -- Assumes nothing.
-use mathlib.Core.Path.{_≡_, refl}
 use mathlib.Core.Bool.{Bool, true, false}
 use mathlib.Core.List.{List, [], _∷_, _++_}
 use mathlib.Core.Option.{Option, none, some}

@@ -1,4 +1,5 @@
 pub mod Unique
+pub mod Replies
 pub mod Made
 pub mod Refused
 pub mod Late

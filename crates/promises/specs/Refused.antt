@@ -1,15 +1,13 @@
 -- A REFUSED CALL hands back the node as it came, touches no lent row and no wait record, and uses no draw: whatever the call, and whichever of the ten it gives.
 -- Assumes nothing.
-use mathlib.Core.Path.{_≡_, refl, sym, _∙_, ap}
-use mathlib.Core.Bool.{Bool, true, false}
-use mathlib.Core.List.{List, [], _∷_, map}
-use mathlib.Core.Option.{Option, none, some}
+use mathlib.Core.Path.{_≡_, sym, _∙_, ap}
+use mathlib.Core.Bool.{true, false}
+use mathlib.Core.List.{List, []}
+use mathlib.Core.Option.{none, some}
 use Prim.Native.Nat.{ℕ}
-use native.Mathlib.Omega.{arith}
-use lib.ListN.{length}
 use Rattle.model.specs.declared.Refusal.{Refusal}
 use Rattle.model.specs.declared.Reply.{Reply}
-use Rattle.model.specs.declared.Reply.the-variants.{Done, Already, NotDue, Refused}
+use Rattle.model.specs.declared.Reply.the-variants.{Refused}
 use Rattle.model.specs.declared.Settings.{Settings}
 use Rattle.model.specs.Bounds.{Room}
 use Rattle.model.specs.Answers.{Answer, done, refused}
@@ -19,10 +17,10 @@ use Rattle.model.specs.Node as M
 use Rattle.model.specs.Handler.{handle}
 use Rattle.model.specs.Detector as D
 use Rattle.model.specs.Calls as calls
-use Rattle.history.specs.Histories.{Call, Add, Receive, Step, Timer}
+use Rattle.history.specs.Histories.{Call}
 use Rattle.history.specs.Worlds.{first-cases}
 use Rattle.types.specs.declared.Gossip.{Gossip}
-use Rattle.types.specs.Views.{toGossip, fromGossip, from-to-gossips}
+use Rattle.types.specs.Views.{from-to-gossips}
 use Rattle.node.specs.declared.Node.{Node}
 use Rattle.node.specs.declared.Answer.{Answer as NodeAnswer}
 use Rattle.node.specs.Views.{storedView, unstored, answerOf, createdOf, plainAnswer, packNode, nobody}
@@ -31,14 +29,8 @@ use Rattle.detection.specs.declared.Wait.{Wait}
 use Rattle.detection.specs.Views.{toWait, fromWait, from-to-wait}
 use Rattle.swim.specs.declared.Outcome.{Outcome}
 use Rattle.swim.specs.Contracts.{outcomeOf, rowAfter, Ends, Creates}
+use Rattle.promises.specs.Replies.{done-apart, already-apart, not-due-apart}
 use Rattle.promises.specs.Made.{Held, Made, adds, receives, steps, endsTimer}
-
--- the kinds of reply are apart
-kind : Reply → ℕ
-kind (Done used) = 0
-kind Already = 1
-kind NotDue = 2
-kind (Refused r) = 3
 
 -- ---- by the rules: a refused call gives what it was given
 module _ (s : M.Stored ℕ) (x : Refusal) where
@@ -49,17 +41,16 @@ module _ (s : M.Stored ℕ) (x : Refusal) where
   refuses-back r e = λ i. record { reply = e i; node = s; messages = []; events = [] }
 
   kept-back : (ds : List ℕ) (e : Answer (M.Effect ℕ)) → Back (calls.kept ipv4 s ds e)
-  unfolding kind
   kept-back ds (refused r) e = refuses-back r e
-  kept-back ds (done o rest) e = let z : _≡_ {A = ℕ} 0 3 = ap kind e in absurd (omega arith)
+  kept-back ds (done o rest) e = done-apart e
 
   add-back : (a n : ℕ) (ds : List ℕ) → Back (calls.addPeer ipv4 s a n ds)
-  unfolding calls.addPeer kind
+  unfolding calls.addPeer
   add-back a n ds =
       first-cases Back (calls.addTests ipv4 s a) (calls.refuses s) _ refuses-back
       (λ p.
       elim (M.lists ipv4 a (M.loaded s)) as (λ t. Back (calls.orAlready t s (calls.kept ipv4 s ds (calls.joins ipv4 a n (M.loaded s) ds)))) [
-        | true ↦ λ e. let z : _≡_ {A = ℕ} 1 3 = ap kind e in absurd (omega arith)
+        | true ↦ λ e. already-apart e
         | false ↦ kept-back ds (calls.joins ipv4 a n (M.loaded s) ds)
       ])
 
@@ -68,12 +59,12 @@ module _ (s : M.Stored ℕ) (x : Refusal) where
   message-back action gs ds lent = first-cases Back (calls.messageTests ipv4 s action gs lent) (calls.refuses s) _ refuses-back (λ p. kept-back ds (handle ipv4 action gs (M.loaded s) ds))
 
   timer-back : (now : ℕ) (lent : Room) → Back (calls.endTimer ipv4 s now lent)
-  unfolding calls.endTimer kind
+  unfolding calls.endTimer
   timer-back now lent =
       first-cases Back (calls.timerTests ipv4 s lent) (calls.refuses s) _ refuses-back
       (λ p.
       elim (D.firstOver ipv4 (s .settings .«suspect_timeout») now (M.loaded s .timers)) as (λ t. Back (calls.endsAt ipv4 s t)) [
-        | none ↦ λ e. let z : _≡_ {A = ℕ} 2 3 = ap kind e in absurd (omega arith)
+        | none ↦ λ e. not-due-apart e
         | some i ↦ kept-back [] (calls.reports ipv4 (D.endAt ipv4 i (M.loaded s) []))
       ])
 
@@ -85,18 +76,17 @@ module _ (s : M.Stored ℕ) (x : Refusal) where
   refuses-step-back w r e = λ i. record { outcome = record { reply = e i; node = s; messages = []; events = [] }; wait = w }
 
   kept-step-back : (w : W.Wait ℕ) (ds : List ℕ) (e : Answer (D.Stepped ℕ)) → StepBack w (calls.keptStep ipv4 s w ds e)
-  unfolding kind
   kept-step-back w ds (refused r) e = refuses-step-back w r e
-  kept-step-back w ds (done o rest) e = let z : _≡_ {A = ℕ} 0 3 = ap kind e in absurd (omega arith)
+  kept-step-back w ds (done o rest) e = done-apart e
 
   step-back : (w : W.Wait ℕ) (now : ℕ) (ds : List ℕ) (lent : Room) → StepBack w (calls.detect ipv4 s w now ds lent)
-  unfolding calls.detect kind
+  unfolding calls.detect
   step-back w now ds lent =
       first-cases (StepBack w) (calls.stepTests ipv4 s w lent) (λ r. record { outcome = calls.refuses s r; wait = w }) _ (refuses-step-back w)
       (λ p.
       elim (D.due (s .settings) w now) as (λ t. StepBack w (calls.whenDue t s w (calls.keptStep ipv4 s w ds (D.step ipv4 (w .state) now (M.loaded s) ds)))) [
         | true ↦ kept-step-back w ds (D.step ipv4 (w .state) now (M.loaded s) ds)
-        | false ↦ λ e. let z : _≡_ {A = ℕ} 2 3 = ap kind e in absurd (omega arith)
+        | false ↦ λ e. not-due-apart e
       ])
 
 -- ---- and so in rows
@@ -145,9 +135,9 @@ refused-keeps h h′ c reply x m said = (keeps x h c reply h′ m said, ap calls
 
 -- "refused, it returns no node": in its place stand zeros, and nothing is sent
 pub refused-creates-nothing : (settings : Settings) (own number : ℕ) (r : NodeAnswer) (x : Refusal) → Creates settings own number r → r .reply ≡ Refused x → r ≡ plainAnswer (Refused x) (packNode nobody)
-unfolding createdOf kind
+unfolding createdOf
 refused-creates-nothing settings own number r x met said = bare (calls.create ipv4 settings own number) (met .answer)
   where
     bare : (c : calls.Created ℕ) → r ≡ createdOf c → r ≡ plainAnswer (Refused x) (packNode nobody)
-    bare (calls.created s) e = let z : _≡_ {A = ℕ} 0 3 = ap kind (sym (λ i. e i .reply) ∙ said) in absurd (omega arith)
+    bare (calls.created s) e = done-apart (sym (λ i. e i .reply) ∙ said)
     bare (calls.notCreated y) e = e ∙ (λ i. plainAnswer ((sym (λ j. e j .reply) ∙ said) i) (packNode nobody))

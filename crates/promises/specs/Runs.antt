@@ -7,16 +7,14 @@ use Prim.Native.Nat.{ℕ}
 use Rattle.model.specs.declared.Reply.{Reply}
 use Rattle.model.specs.IPv4.{ipv4}
 use Rattle.model.specs.Node as M
-use Rattle.model.specs.Calls as calls
 use Rattle.history.specs.Histories.{World, Call, outcome, worldOf, run}
-use Rattle.types.specs.declared.Gossip.{Gossip}
 use Rattle.heap.specs.Views.{to-from-entries}
 use Rattle.member.specs.Views.{toMember, fromMember}
 use Rattle.timers.specs.Views.{toTimer, fromTimer}
 use Rattle.node.specs.declared.Node.{Node}
 use Rattle.node.specs.Views.{storedView, unstored, answerOf}
 use Rattle.detection.specs.declared.Wait.{Wait}
-use Rattle.detection.specs.Views.{toWait, fromWait, to-from-wait}
+use Rattle.detection.specs.Views.{toWait, to-from-wait}
 use Rattle.swim.specs.Contracts.{outcomeOf, stepOf}
 use Rattle.promises.specs.Made.{Held, Made, adds, receives, steps, endsTimer}
 

@@ -28,7 +28,7 @@ use denote.Plain.{uint-makes, uint-vals, uint-tells, nothing-lawful}
 use denote.Builtin.{u32, usize}
 use denote.Array.{Array}
 use denote.Ref.{RefT}
-use denote.Slice.{sliceTy, MutSlice, Room, finally, slice-vals, mut-slice-tells}
+use denote.Slice.{sliceTy, MutSlice, finally, slice-vals, mut-slice-tells}
 use denote.Signature.{Slot, plain}
 use denote.Steps.{only, owned, peeks, heard, nothing}
 use denote.Struct.Laws as LL
