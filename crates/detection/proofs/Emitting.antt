@@ -16,8 +16,7 @@ use Rattle.model.specs.Heap.{push}
 use Rattle.model.specs.Choose.{entryOf}
 use Rattle.model.specs.Node as M
 use Rattle.node.specs.declared.Node.{Node}
-use Rattle.node.specs.declared.parts.Emitted.{Emitted}
-use Rattle.node.specs.Views.{packNode, emittedOf}
+use Rattle.node.specs.Views.{packNode, Emitted, emittedOf}
 
 -- the two ways that an emit goes: no draws stand behind the first answer, ds behind the second
 pub data Emits (g : W.Gossip ℕ) (ds : List ℕ) : Answer (M.Out ℕ) → Answer (M.Out ℕ) → Type 0 where

@@ -35,8 +35,7 @@ use Rattle.member.specs.declared.Members.{Members}
 use Rattle.member.specs.declared.Picked.{Picked}
 use Rattle.member.specs.Views.{packMembers, viewMembers, pickedAs, pickedOf}
 use Rattle.node.specs.declared.Node.{Node}
-use Rattle.node.specs.declared.parts.Emitted.{Emitted}
-use Rattle.node.specs.Views.{viewNode, packNode, storedView, withMembers, withHeaps, emittedOf}
+use Rattle.node.specs.Views.{viewNode, packNode, storedView, withMembers, withHeaps, Emitted, emittedOf}
 use Rattle.node.specs.Rows.{Ready, ready-pack}
 use Rattle.node.specs.Parts.{part-members, emitted-alive}
 use Rattle.detection.specs.declared.Wait.{Wait}

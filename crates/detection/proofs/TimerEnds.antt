@@ -43,8 +43,7 @@ use Rattle.disseminate.specs.Views.{heldOr}
 use Rattle.member.specs.declared.Members.{Members}
 use Rattle.member.specs.Views.{packMembers, viewMembers}
 use Rattle.node.specs.declared.Node.{Node}
-use Rattle.node.specs.declared.parts.Emitted.{Emitted}
-use Rattle.node.specs.Views.{viewNode, packNode, storedView, withMembers, withHeaps, withTimers, emittedOf, plainAnswer, answerOf}
+use Rattle.node.specs.Views.{viewNode, packNode, storedView, withMembers, withHeaps, withTimers, Emitted, emittedOf, plainAnswer, answerOf}
 use Rattle.node.specs.Rows.{Ready, ready-pack, loaded-view}
 use Rattle.node.specs.Parts.{part-members, part-timers, emitted-deceased}
 use Rattle.node.specs.Ends.{test-fails, test-passes, kept-is}

@@ -24,9 +24,8 @@ use Rattle.disseminate.specs.declared.Pushed.{Pushed}
 use Rattle.disseminate.specs.declared.Choice.{Choice}
 use Rattle.disseminate.specs.Views.{heldOr, packChoice}
 use Rattle.node.specs.declared.Node.{Node}
-use Rattle.node.specs.declared.parts.Emitted.{Emitted}
 use Rattle.node.specs.declared.parts.Spread.{Spread}
-use Rattle.node.specs.Views.{viewNode, packNode, withMembers, withHeaps, withTimers, emittedOf, spreadOf}
+use Rattle.node.specs.Views.{viewNode, packNode, withMembers, withHeaps, withTimers, Emitted, emittedOf, spreadOf}
 use Rattle.node.specs.Rows.{Ready}
 
 module _ (n : Node) (r : Ready n) where

@@ -29,7 +29,6 @@ use Rattle.timers.specs.Views.{toTimer, fromTimer, timersView, packTimers, rowV
 use Rattle.node.specs.declared.Node.{Node}
 use Rattle.node.specs.declared.Letter.{Letter}
 use Rattle.node.specs.declared.Answer.{Answer}
-use Rattle.node.specs.declared.parts.Emitted.{Emitted}
 use Rattle.node.specs.declared.parts.Spread.{Spread}
 
 -- the node that the rows hold, and the rows that hold a node
@@ -98,7 +97,11 @@ withHeaps n a d = record { settings = n .settings; own = n .own; members = n .me
 abbrev pub withTimers : Node → Timers → Node
 withTimers n t = record { settings = n .settings; own = n .own; members = n .members; alive = n .alive; deceased = n .deceased; timers = t }
 
--- an event was pushed, or the node is as it came
+-- an event was pushed, or the node is as it came since its heap was full
+pub record Emitted : Type 0 where
+  pub node : Node
+  pub full : Bool
+
 abbrev pub emittedOf : Node → A.Answer (M.Out ℕ) → Emitted
 emittedOf n (A.refused r) = record { node = n; full = true }
 emittedOf n (A.done o ds) = record { node = packNode (o .node); full = false }

@@ -8,12 +8,10 @@ use model::State;
 use timers::Timers;
 use types::Gossip;
 ghost use mathlib.Core.Path.{_≡_};
-ghost use mathlib.Core.List.{[]};
 ghost use Prim.Native.Nat.{_≤_};
 ghost use Rattle.model.specs.IPv4.{ipv4};
 ghost use Rattle.model.specs.Node as M;
-ghost use Rattle.types.specs.Views.{toGossip};
-ghost use Rattle.node.specs.Views.{viewNode, packNode, withMembers, withHeaps, withTimers, emittedOf, spreadOf};
+ghost use Rattle.node.specs.Views.{viewNode, packNode, withMembers, withHeaps, withTimers, spreadOf};
 ghost use Rattle.node.specs.Rows.{Ready};
 
 impl Node {
@@ -81,48 +79,6 @@ impl Node {
         self.with_members(after)
     }
 
-    // An address leaves the list.
-    pub fn leave(self, a: Address) -> Node
-        requires { ⌜ Ready self ⌝ }
-        ensures { λ r. ⌜ r ≡ packNode (M.leave ipv4 a (viewNode self)) ⌝ }
-    {
-        let members = self.members;
-        let after = members.remove_member(a);
-        self.with_members(after)
-    }
-
-    // "an emitted event is pushed to its heap, then reported": here to the heap of the living.
-    pub fn emit_alive(self, g: Gossip) -> Emitted
-        requires { ⌜ Ready self ⌝ }
-        ensures { λ r. ⌜ r ≡ emittedOf self (M.emitAlive ipv4 (toGossip g) (viewNode self) []) ⌝ }
-    {
-        let alive = self.alive;
-        let deceased = self.deceased;
-        let pushed = disseminate::push(alive, g);
-        let full = pushed.full;
-        let after = pushed.heap;
-        Emitted {
-            node: self.with_heaps(after, deceased),
-            full,
-        }
-    }
-
-    // and here to the heap of the dead.
-    pub fn emit_deceased(self, g: Gossip) -> Emitted
-        requires { ⌜ Ready self ⌝ }
-        ensures { λ r. ⌜ r ≡ emittedOf self (M.emitDeceased ipv4 (toGossip g) (viewNode self) []) ⌝ }
-    {
-        let alive = self.alive;
-        let deceased = self.deceased;
-        let pushed = disseminate::push(deceased, g);
-        let full = pushed.full;
-        let after = pushed.heap;
-        Emitted {
-            node: self.with_heaps(alive, after),
-            full,
-        }
-    }
-
     // Gossip is chosen for a message, at as many members as are listed.
     pub fn spread(self) -> Spread
         requires { ⌜ Ready self ⌝ }
@@ -144,12 +100,6 @@ impl Node {
             count: chosen.count,
         }
     }
-}
-
-// A node with an event pushed, or the node as it came where the heap was full.
-pub struct Emitted {
-    pub node: Node,
-    pub full: bool,
 }
 
 // A node whose heaps gave gossip for a message.
