@@ -6,7 +6,7 @@
 }
 
 END {
-  print "| stack, " machine " | KB |"
+  print "| stack, " program " | KB |"
   print "|---|---|"
   for (i = 1; i <= kinds; i++) printf "| %s | %.1f |\n", words[order[i]], largest[order[i]] / 1024
   printf "| the largest of %d calls | %.1f |\n\n", NR, most / 1024

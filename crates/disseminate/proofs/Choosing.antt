@@ -7,21 +7,22 @@ use Prim.Native.Nat.{ℕ, zero, suc, _+_, _-_, _≤_, _<_}
 use native.Mathlib.Omega.{arith}
 use lib.Dec.{eqb, leb}
 use lib.ListN.{length}
-use Rattle.model.specs.Rows.{isEmpty}
+use Rattle.model.specs.Rows.{isEmpty, one, pick}
 use Rattle.model.specs.IPv4.{ipv4}
 use Rattle.model.specs.Words as W
 use Rattle.model.specs.Choose as M
-use Rattle.model.specs.Choose.{tryAlive, tryDeceased, afterAlive, afterDeceased, over, rounds, begin, choose}
+use Rattle.model.specs.Choose.{tryAlive, tryDeceased, afterAlive, afterDeceased, gave, over, rounds, begin, choose}
 use Rattle.model.specs.Chosen.{heap-least}
 use Rattle.model.specs.Sound.{AliveKind, DeceasedKind}
 use Rattle.model.specs.Good.{GoodHeap}
 use Rattle.heap.specs.declared.Heap.{Heap}
-use Rattle.heap.specs.Views.{heapView, Packed, view-length}
+use Rattle.heap.specs.Views.{heapView, packHeap, Packed, view-length}
 use Rattle.disseminate.specs.declared.Terms.{Terms}
 use Rattle.disseminate.specs.declared.Chosen.{Chosen}
 use Rattle.disseminate.specs.declared.Choice.{Choice}
-use Rattle.disseminate.specs.Views.{noted, toTerms, chosenNone, choiceView, packChoice, PackedChosen, Ready}
+use Rattle.disseminate.specs.Views.{noted, toTerms, chosenNone, choiceView, packChoice, PackedChosen, NotedIf, topOf, Open, Ready}
 use Rattle.disseminate.proofs.Noting.{chosen-length, pack-choice}
+use Rattle.disseminate.proofs.Stepping.{tried, without-top, with-alive, with-deceased, open-alive, open-deceased, alive-turn, deceased-turn}
 use Rattle.disseminate.proofs.Trying.{held-none, turned, rounds-over, rounds-stop, rounds-more}
 
 module _ (t : Terms) where
@@ -117,10 +118,10 @@ module _ (t : Terms) where
           before : length (choiceView c .chosen) ≡ c .chosen .count
           before = chosen-length (c .chosen) (g .ready .chosen)
 
-          pub ends-stop : b .chosen .count ≡ c .chosen .count → b ≡ packChoice goal
+          ends-stop : b .chosen .count ≡ c .chosen .count → b ≡ packChoice goal
           ends-stop e = pack-choice t b ready ∙ ap packChoice (round ∙ sym (rounds-stop (toTerms t) (choiceView c) (left - 1) o (many ∙ e ∙ sym before)) ∙ this)
 
-          pub goes-on : (b .chosen .count ≡ c .chosen .count → ⊥) → Going goal b (left - 1)
+          goes-on : (b .chosen .count ≡ c .chosen .count → ⊥) → Going goal b (left - 1)
           goes-on n =
               record {
                 ready = ready;
@@ -129,3 +130,52 @@ module _ (t : Terms) where
                     ∙ sym (rounds-more (toTerms t) (choiceView c) (left - 1) o (λ e. n (sym many ∙ e ∙ before)))
                     ∙ this;
               }
+
+      -- a round of the code: a try at each heap, and one more from it where it gave one
+      module _
+          (o : over ipv4 (toTerms t) (choiceView c) ≡ false)
+          (u : Bool)
+          (n : Chosen)
+          (a : Heap)
+          (living : ℕ)
+          (gu : u ≡ gave ipv4 (tried t (c .alive) (c .chosen) (open-alive t c (g .ready))))
+          (nu : NotedIf u (c .chosen) (topOf (c .alive)) n)
+          (au : a ≡ pick u (packHeap (without-top t (c .alive) (c .chosen) (open-alive t c (g .ready)) .heap)) (c .alive))
+          (lu : living ≡ c .«from_alive» + one u)
+        where
+          abbrev between : Choice
+          between = with-alive c (record { heap = a; chosen = n; gave = u })
+
+          first : (choiceView between ≡ afterAlive ipv4 (choiceView c) (tryAlive ipv4 (toTerms t) (choiceView c))) × Ready t between
+          first = alive-turn t c (g .ready) u n a gu nu au
+
+          pub opens : Open t (c .deceased) n
+          opens = open-deceased t between (first .1)
+
+          module _
+              (v : Bool)
+              (m : Chosen)
+              (d : Heap)
+              (dead : ℕ)
+              (gv : v ≡ gave ipv4 (tried t (c .deceased) n opens))
+              (mv : NotedIf v n (topOf (c .deceased)) m)
+              (dv : d ≡ pick v (packHeap (without-top t (c .deceased) n opens .heap)) (c .deceased))
+              (lv : dead ≡ c .«from_deceased» + one v)
+            where
+              abbrev next : Choice
+              next = with-deceased between (record { heap = d; chosen = m; gave = v })
+
+              second : (choiceView next ≡ afterDeceased ipv4 (choiceView between) (tryDeceased ipv4 (toTerms t) (choiceView between))) × Ready t next
+              second = deceased-turn t between (first .1) v m d gv mv dv
+
+              abbrev reads : Choice
+              reads = record { alive = a; deceased = d; chosen = m; «from_alive» = living; «from_deceased» = dead }
+
+              counted : next ≡ reads
+              counted = λ i. record { alive = a; deceased = d; chosen = m; «from_alive» = sym lu i; «from_deceased» = sym lv i }
+
+              pub round-stops : m .count ≡ c .chosen .count → reads ≡ packChoice goal
+              round-stops e = sym counted ∙ ends-stop o between next (first .0) (second .0) (second .1) e
+
+              pub round-goes-on : (m .count ≡ c .chosen .count → ⊥) → Going goal reads (left - 1)
+              round-goes-on e = subst (λ (x : Choice). Going goal x (left - 1)) counted (goes-on o between next (first .0) (second .0) (second .1) e)

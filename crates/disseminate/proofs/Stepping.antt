@@ -1,7 +1,7 @@
 -- One try of the code at a heap: what it asks for, and that each way out is the model's try.
 -- Assumes nothing.
 use mathlib.Core.Path.{_≡_, refl, sym, _∙_, ap, subst}
-use mathlib.Core.Bool.{Bool, true, false, _||_}
+use mathlib.Core.Bool.{Bool, true, false, not, _||_}
 use mathlib.Core.List.{List, [], _∷_, _++_}
 use mathlib.Core.Option.{Option, none, some}
 use Prim.Native.Nat.{ℕ, zero, suc, _+_, _-_, _*_, _≤_, _<_}
@@ -11,12 +11,12 @@ use lib.Dec.{ltb, leb}
 use lib.ListN.{length, getD, drop, take, List·getD-map}
 use lib.Seq.{drop-cons, getD-take}
 use borrow.Author.Tests.{ltb-false, leb-true}
-use Rattle.model.specs.Rows.{every, one}
+use Rattle.model.specs.Rows.{every, one, pick}
 use Rattle.model.specs.IPv4.{ipv4}
 use Rattle.model.specs.Words as W
 use Rattle.model.specs.Bools.{and-split}
 use Rattle.model.specs.Choose as M
-use Rattle.model.specs.Choose.{wasNoted, takeTop, tryHeap, tryAlive, tryDeceased, afterAlive, afterDeceased}
+use Rattle.model.specs.Choose.{wasNoted, takeTop, tryHeap, gave, tryAlive, tryDeceased, afterAlive, afterDeceased}
 use Rattle.model.specs.ChooseLaws.{atLeast}
 use Rattle.model.specs.Sound.{Kind, AliveKind, DeceasedKind, soundEntry}
 use Rattle.model.specs.Good.{GoodHeap}
@@ -27,31 +27,39 @@ use Rattle.heap.specs.Views.{toEntry, noEntry, heapView, packHeap, Packed, view
 use Rattle.disseminate.specs.declared.Terms.{Terms}
 use Rattle.disseminate.specs.declared.Chosen.{Chosen}
 use Rattle.disseminate.specs.declared.Choice.{Choice}
-use Rattle.disseminate.specs.declared.Tried.{Tried}
-use Rattle.disseminate.specs.Views.{noted, toTerms, choiceView, PackedChosen, NotedOne, Open, Outcome, Kept, Ready}
+use Rattle.disseminate.specs.Views.{noted, toTerms, choiceView, PackedChosen, NotedOne, Room, NotedIf, topOf, Open, Kept, Ready}
 use Rattle.disseminate.proofs.Noting.{chosen-length}
 use Rattle.disseminate.proofs.Trying.{try-empty, try-barred, try-takes, kept-alive, kept-deceased, sound-most}
 
+-- what a try at a heap gives: both as they came where it gave none
+pub record Tried : Type 0 where
+  pub heap : Heap
+  pub chosen : Chosen
+  pub gave : Bool
+
+-- what a try came to
+abbrev pub Outcome : Heap → Chosen → Tried → Option (M.Taken ℕ) → Type 0
+Outcome h n r none = r ≡ record { heap = h; chosen = n; gave = false }
+Outcome h n r (some k) =
+    (r .heap ≡ packHeap (k .heap)) × NotedOne n (k .gossip) (k .sends) (k .size) (r .chosen) × (r .gave ≡ true)
+
 -- the top of a heap that has one
 module _ (h : Heap) (p : Packed h) (held : 0 < h .len) where
-  abbrev pub top : Entry
-  top = getD (h .entries) 0 noEntry
-
-  pub top-view : heapView h ≡ toEntry top ∷ drop 1 (heapView h)
+  pub top-view : heapView h ≡ toEntry (topOf h) ∷ drop 1 (heapView h)
   top-view =
       drop-cons (heapView h) 0 W.unused (omega (arith, view-length h p))
       ∙ ap (λ (e : W.Entry ℕ). e ∷ drop 1 (heapView h))
       (List·getD-map toEntry (take (h .len) (h .entries)) 0 noEntry ∙ ap toEntry (getD-take (h .len) (h .entries) 0 noEntry held))
 
-  pub top-most : (k : Kind) → GoodHeap ipv4 k (heapView h) → (top .size ≤ 59) × (top .sends ≤ 22)
+  pub top-most : (k : Kind) → GoodHeap ipv4 k (heapView h) → (topOf h .size ≤ 59) × (topOf h .sends ≤ 22)
   top-most k g =
-      let s : every (soundEntry ipv4 k) (toEntry top ∷ drop 1 (heapView h)) ≡ true = rw top-view at (g .entries) in
-      sound-most k (toEntry top) (and-split (soundEntry ipv4 k (toEntry top)) (every (soundEntry ipv4 k) (drop 1 (heapView h))) s .0)
+      let s : every (soundEntry ipv4 k) (toEntry (topOf h) ∷ drop 1 (heapView h)) ≡ true = rw top-view at (g .entries) in
+      sound-most k (toEntry (topOf h)) (and-split (soundEntry ipv4 k (toEntry (topOf h))) (every (soundEntry ipv4 k) (drop 1 (heapView h))) s .0)
 
-  pub top-least : every (atLeast ipv4 24) (heapView h) ≡ true → 24 ≤ top .size
+  pub top-least : every (atLeast ipv4 24) (heapView h) ≡ true → 24 ≤ topOf h .size
   top-least g =
-      let s : every (atLeast ipv4 24) (toEntry top ∷ drop 1 (heapView h)) ≡ true = rw top-view at g in
-      leb-true 24 (top .size) (and-split (atLeast ipv4 24 (toEntry top)) (every (atLeast ipv4 24) (drop 1 (heapView h))) s .0)
+      let s : every (atLeast ipv4 24) (toEntry (topOf h) ∷ drop 1 (heapView h)) ≡ true = rw top-view at g in
+      leb-true 24 (topOf h .size) (and-split (atLeast ipv4 24 (toEntry (topOf h))) (every (atLeast ipv4 24) (drop 1 (heapView h))) s .0)
 
 -- neither of two tests passed
 pub or-left : (u v : Bool) → (u || v) ≡ false → u ≡ false
@@ -62,48 +70,87 @@ pub or-right : (u v : Bool) → u ≡ false → v ≡ (u || v)
 or-right true v e = cc
 or-right false v e = refl
 
+never : {A : Type 0} → false ≡ true → A
+never e = let z : _≡_ {A = ℕ} 0 1 = cc in absurd (omega arith)
+
 -- a try of the code: what it asks of its calls, and its ways out
 module _ (t : Terms) (h : Heap) (n : Chosen) (o : Open t h n) where
   abbrev pub tried : Option (M.Taken ℕ)
   tried = tryHeap ipv4 (toTerms t) (n .size) (noted (n .rows) (n .sent) (n .count)) (heapView h)
 
-  outcome : (r : Tried) (x : Option (M.Taken ℕ)) → tried ≡ x → Outcome h n r x → Outcome h n r tried
-  outcome r x e w = subst (Outcome h n r) (sym e) w
-
-  pub gives-none : h .len ≡ 0 → Outcome h n (record { heap = h; chosen = n; gave = false }) tried
-  gives-none e = outcome _ none (try-empty (toTerms t) _ _ (heapView h) (view-length h (o .heap) ∙ e)) refl
+  pub empty : h .len ≡ 0 → tried ≡ none
+  empty e = try-empty (toTerms t) _ _ (heapView h) (view-length h (o .heap) ∙ e)
 
   pub in-size : n .size ≤ 1400
   in-size = omega (arith, o .fits, o .size)
 
-  -- what stops an entry
-  abbrev pub barrier : Entry → Bool
-  barrier e =
-      ltb (t .«max_size») (n .size + e .size)
-      || wasNoted ipv4 (toEntry e .gossip) (e .sends) (noted (n .rows) (n .sent) (n .count))
+  -- what stops the top
+  abbrev pub barrier : Bool
+  barrier =
+      ltb (t .«max_size») (n .size + topOf h .size)
+      || wasNoted ipv4 (toEntry (topOf h) .gossip) (topOf h .sends) (noted (n .rows) (n .sent) (n .count))
+
+  abbrev pub without-top : M.Taken ℕ
+  without-top = takeTop ipv4 (t .limit) (toEntry (topOf h)) (heapView h)
 
   module _ (held : 0 < h .len) where
-    pub top-small : (top h (o .heap) held .size ≤ 1400) × (top h (o .heap) held .sends ≤ 22)
+    pub top-small : (topOf h .size ≤ 1400) × (topOf h .sends ≤ 22)
     top-small = let m = o .top held in (omega (arith, m .1), m .2)
 
     -- an entry of 24 bytes that is not stopped finds room: 58 of them are the most
-    pub finds-room : barrier (top h (o .heap) held) ≡ false → n .count < 64
+    pub finds-room : barrier ≡ false → Room n (topOf h)
     finds-room b =
-        let f : n .size + top h (o .heap) held .size ≤ t .«max_size» = ltb-false (t .«max_size») (n .size + top h (o .heap) held .size) (or-left _ _ b) in
+        let f : n .size + topOf h .size ≤ t .«max_size» = ltb-false (t .«max_size») (n .size + topOf h .size) (or-left _ _ b) in
         let m = o .top held in
-        omega (arith, m .0, o .counted, o .size)
+        (o .chosen, omega (arith, m .0, o .counted, o .size), in-size, top-small .0, top-small .1)
 
-    pub stopped : barrier (top h (o .heap) held) ≡ true → Outcome h n (record { heap = h; chosen = n; gave = false }) tried
-    stopped b = outcome _ none (try-barred (toTerms t) _ _ (heapView h) _ _ (top-view h (o .heap) held) b) refl
+    -- both ways out where the heap holds an entry
+    abbrev pub way : Bool → Option (M.Taken ℕ)
+    way b = pick b none (some without-top)
 
-    pub takes :
-        (a : Heap) (c : Chosen) →
-        barrier (top h (o .heap) held) ≡ false →
-        a ≡ packHeap (takeTop ipv4 (t .limit) (toEntry (top h (o .heap) held)) (heapView h) .heap) →
-        NotedOne n (toGossip (top h (o .heap) held .gossip)) (top h (o .heap) held .sends + 1) (top h (o .heap) held .size) c →
-        Outcome h n (record { heap = a; chosen = c; gave = true }) tried
-    unfolding takeTop
-    takes a c b q w = outcome _ (some _) (try-takes (toTerms t) _ _ (heapView h) _ _ (top-view h (o .heap) held) b) (q, w, refl)
+    pub way-out : (b : Bool) → barrier ≡ b → tried ≡ way b
+    way-out true b = try-barred (toTerms t) _ _ (heapView h) _ _ (top-view h (o .heap) held) b
+    way-out false b = try-takes (toTerms t) _ _ (heapView h) _ _ (top-view h (o .heap) held) b
+
+    pub gives-is : (b : Bool) → b ≡ barrier → not b ≡ gave ipv4 tried
+    gives-is true e = sym (ap (gave ipv4) (way-out true (sym e)))
+    gives-is false e = sym (ap (gave ipv4) (way-out false (sym e)))
+
+  -- where a top is given the heap holds an entry and nothing stops it
+  pub record Given : Type 0 where
+    pub held : 0 < h .len
+    pub passes : barrier ≡ false
+
+  pub given : gave ipv4 tried ≡ true → Given
+  given g = go (h .len) refl barrier refl
+    where
+      go : (k : ℕ) → h .len ≡ k → (b : Bool) → barrier ≡ b → Given
+      go zero e b q = never (sym (ap (gave ipv4) (empty e)) ∙ g)
+      go (suc k) e true q = never (sym (ap (gave ipv4) (way-out (omega arith) true q)) ∙ g)
+      go (suc k) e false q = record { held = omega arith; passes = q }
+
+  -- so it may be noted and taken
+  pub may-note : (g : Bool) → g ≡ gave ipv4 tried → g ≡ true → Room n (topOf h)
+  may-note g e q = let v = given (sym e ∙ q) in finds-room (v .held) (v .passes)
+
+  pub may-spend : (g : Bool) → g ≡ gave ipv4 tried → g ≡ true → Packed h × (0 < h .len) × (topOf h .sends ≤ 22)
+  may-spend g e q = let v = given (sym e ∙ q) in (o .heap, v .held, top-small (v .held) .1)
+
+  pub outcome :
+      (g : Bool) (c : Chosen) (a : Heap) →
+      g ≡ gave ipv4 tried →
+      NotedIf g n (topOf h) c →
+      a ≡ pick g (packHeap (without-top .heap)) h →
+      Outcome h n (record { heap = a; chosen = c; gave = g }) tried
+  unfolding takeTop
+  outcome true c a e w p =
+      let v = given (sym e) in
+      subst (Outcome h n (record { heap = a; chosen = c; gave = true })) (sym (way-out (v .held) false (v .passes))) (p, w, refl)
+  outcome false c a e w p = go tried refl
+    where
+      go : (x : Option (M.Taken ℕ)) → tried ≡ x → Outcome h n (record { heap = a; chosen = c; gave = false }) x
+      go none q = λ i. record { heap = p i; chosen = w i; gave = false }
+      go (some k) q = never (e ∙ ap (gave ipv4) q)
 
 -- what a choosing is after a try at the heap of the living, and of the dead
 abbrev pub with-alive : Choice → Tried → Choice
@@ -153,7 +200,7 @@ module _ (t : Terms) (c : Choice) (r : Ready t c) where
   abbrev AliveTried : Choice → Type 0
   AliveTried b = (choiceView b ≡ afterAlive ipv4 (choiceView c) (tryAlive ipv4 (toTerms t) (choiceView c))) × Ready t b
 
-  pub alive-tried : (x : Tried) → Outcome (c .alive) (c .chosen) x (tried t (c .alive) (c .chosen) open-alive) → AliveTried (with-alive c x)
+  alive-tried : (x : Tried) → Outcome (c .alive) (c .chosen) x (tried t (c .alive) (c .chosen) open-alive) → AliveTried (with-alive c x)
   unfolding tryAlive
   alive-tried x = go (tryAlive ipv4 (toTerms t) (choiceView c)) refl
     where
@@ -171,10 +218,18 @@ module _ (t : Terms) (c : Choice) (r : Ready t c) where
             record { alive = subst Packed (sym (w .0)) (packed-pack (k .heap) (kept .heaps .alive .few)); deceased = r .deceased; chosen = w .1 .packed; size = r .size; limit = r .limit; kept = subst (Kept (toTerms t)) (sym viewed) kept },
           )
 
+  pub alive-turn :
+      (g : Bool) (n : Chosen) (a : Heap) →
+      g ≡ gave ipv4 (tried t (c .alive) (c .chosen) open-alive) →
+      NotedIf g (c .chosen) (topOf (c .alive)) n →
+      a ≡ pick g (packHeap (without-top t (c .alive) (c .chosen) open-alive .heap)) (c .alive) →
+      AliveTried (with-alive c (record { heap = a; chosen = n; gave = g }))
+  alive-turn g n a e w p = alive-tried _ (outcome t (c .alive) (c .chosen) open-alive g n a e w p)
+
   abbrev DeceasedTried : Choice → Type 0
   DeceasedTried b = (choiceView b ≡ afterDeceased ipv4 (choiceView c) (tryDeceased ipv4 (toTerms t) (choiceView c))) × Ready t b
 
-  pub deceased-tried : (x : Tried) → Outcome (c .deceased) (c .chosen) x (tried t (c .deceased) (c .chosen) open-deceased) → DeceasedTried (with-deceased c x)
+  deceased-tried : (x : Tried) → Outcome (c .deceased) (c .chosen) x (tried t (c .deceased) (c .chosen) open-deceased) → DeceasedTried (with-deceased c x)
   unfolding tryDeceased
   deceased-tried x = go (tryDeceased ipv4 (toTerms t) (choiceView c)) refl
     where
@@ -191,3 +246,11 @@ module _ (t : Terms) (c : Choice) (r : Ready t c) where
             viewed ∙ sym (ap (afterDeceased ipv4 (choiceView c)) e),
             record { alive = r .alive; deceased = subst Packed (sym (w .0)) (packed-pack (k .heap) (kept .heaps .deceased .few)); chosen = w .1 .packed; size = r .size; limit = r .limit; kept = subst (Kept (toTerms t)) (sym viewed) kept },
           )
+
+  pub deceased-turn :
+      (g : Bool) (n : Chosen) (d : Heap) →
+      g ≡ gave ipv4 (tried t (c .deceased) (c .chosen) open-deceased) →
+      NotedIf g (c .chosen) (topOf (c .deceased)) n →
+      d ≡ pick g (packHeap (without-top t (c .deceased) (c .chosen) open-deceased .heap)) (c .deceased) →
+      DeceasedTried (with-deceased c (record { heap = d; chosen = n; gave = g }))
+  deceased-turn g n d e w p = deceased-tried _ (outcome t (c .deceased) (c .chosen) open-deceased g n d e w p)

@@ -1,7 +1,7 @@
 -- How the code's values carry the model's: terms, what is chosen and noted, and how far a choosing has come.
 -- Assumes nothing.
 use mathlib.Core.Path.{_≡_}
-use mathlib.Core.Bool.{true, false}
+use mathlib.Core.Bool.{Bool, true, false}
 use mathlib.Core.List.{List, [], _∷_, _++_, map}
 use mathlib.Core.Option.{Option, none, some}
 use Prim.Native.Nat.{ℕ, zero, suc, _+_, _*_, _≤_, _<_}
@@ -15,6 +15,7 @@ use Rattle.model.specs.ChooseLaws.{GoodHeaps, Within}
 use Rattle.types.specs.declared.Gossip.{Gossip}
 use Rattle.types.specs.Views.{toGossip, fromGossip, noGossip, to-from-gossip}
 use Rattle.model.specs.Packing.{view-pack}
+use Rattle.heap.specs.declared.Entry.{Entry}
 use Rattle.heap.specs.declared.Heap.{Heap}
 use Rattle.heap.specs.Views.{noEntry, heapView, packHeap, Packed}
 use Rattle.disseminate.specs.declared.Pushed.{Pushed}
@@ -23,7 +24,6 @@ use Rattle.disseminate.specs.declared.Found.the-variants.{Missing, At}
 use Rattle.disseminate.specs.declared.Terms.{Terms}
 use Rattle.disseminate.specs.declared.Chosen.{Chosen}
 use Rattle.disseminate.specs.declared.Choice.{Choice}
-use Rattle.disseminate.specs.declared.Tried.{Tried}
 
 -- a heap after a push that was not refused, or the heap as it came
 abbrev pub heldOr : Heap → Answer (List (W.Entry ℕ)) → Pushed
@@ -112,6 +112,19 @@ pub record NotedOne (n : Chosen) (g : W.Gossip ℕ) (s z : ℕ) (r : Chosen) : T
   pub noted : noted (r .rows) (r .sent) (r .count) ≡ (g, s) ∷ noted (n .rows) (n .sent) (n .count)
   pub size : r .size ≡ n .size + z
 
+-- the first entry of a heap's row
+abbrev pub topOf : Heap → Entry
+topOf h = getD (h .entries) 0 noEntry
+
+-- an entry finds room among what is chosen
+abbrev pub Room : Chosen → Entry → Type 0
+Room n e = PackedChosen n × (n .count < 64) × (n .size ≤ 1400) × (e .size ≤ 1400) × (e .sends ≤ 22)
+
+-- an entry is chosen with one send more, where it is given
+abbrev pub NotedIf : Bool → Chosen → Entry → Chosen → Type 0
+NotedIf false n e r = r ≡ n
+NotedIf true n e r = NotedOne n (toGossip (e .gossip)) (e .sends + 1) (e .size) r
+
 -- what a try asks for: the heap's top is an entry as a good heap holds them, and what is chosen fits, 24 bytes each at least
 pub record Open (t : Terms) (h : Heap) (n : Chosen) : Type 0 where
   pub heap : Packed h
@@ -120,12 +133,6 @@ pub record Open (t : Terms) (h : Heap) (n : Chosen) : Type 0 where
   pub counted : 24 * n .count ≤ n .size
   pub fits : n .size ≤ t .«max_size»
   pub size : t .«max_size» ≤ 1400
-
--- what a try came to
-abbrev pub Outcome : Heap → Chosen → Tried → Option (M.Taken ℕ) → Type 0
-Outcome h n r none = r ≡ record { heap = h; chosen = n; gave = false }
-Outcome h n r (some k) =
-    (r .heap ≡ packHeap (k .heap)) × NotedOne n (k .gossip) (k .sends) (k .size) (r .chosen) × (r .gave ≡ true)
 
 -- what holds of a choosing at each step: good heaps, and chosen gossip that fits, 24 bytes each at least
 pub record Kept (t : M.Terms) (m : M.Choice ℕ) : Type 0 where

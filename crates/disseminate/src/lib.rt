@@ -10,16 +10,16 @@ ghost use mathlib.Core.Bool.{Bool, true, false, _&&_, _||_};
 ghost use mathlib.Core.List.{[]};
 ghost use Prim.Native.Nat.{ℕ, _+_, _≤_, _<_};
 ghost use lib.Dec.{eqb, leb, ltb};
-ghost use Rattle.model.specs.Rows.{one};
+ghost use Rattle.model.specs.Rows.{one, pick};
 ghost use Rattle.model.specs.IPv4.{ipv4};
 ghost use Rattle.model.specs.Limit.{limitOf};
-ghost use Rattle.model.specs.Choose.{wasNoted, takeTop, tryHeap, termsOf, choose as chosenFrom, deathIn, death as deathOf};
+ghost use Rattle.model.specs.Choose.{wasNoted, takeTop, tryHeap, gave, termsOf, choose as chosenFrom, deathIn, death as deathOf};
 ghost use Rattle.model.specs.Node.{pushed};
 ghost use Rattle.model.specs.Sound.{AliveKind, DeceasedKind, inRange};
 ghost use Rattle.model.specs.Good.{GoodHeap};
 ghost use Rattle.types.specs.Views.{toGossip};
 ghost use Rattle.heap.specs.Views.{toEntry, heapView, packHeap, Packed};
-ghost use Rattle.disseminate.specs.Views.{noted as notedOf, toTerms, fromTerms, chosenNone, packChoice, PackedChosen, NotedOne, Open, Outcome, heldOr, fromFound};
+ghost use Rattle.disseminate.specs.Views.{noted as notedOf, toTerms, fromTerms, chosenNone, packChoice, PackedChosen, NotedOne, Room, NotedIf, topOf, Open, heldOr, fromFound};
 
 // A gossip pushed to a heap, or the heap as it came where it was full.
 pub struct Pushed {
@@ -229,41 +229,43 @@ fn after_top(h: Heap, top: Entry, limit: u64) -> Heap
     })
 }
 
-// What one try at a heap gives: both as they came where it gave none.
-pub struct Tried {
-    pub heap: Heap,
-    pub chosen: Chosen,
-    pub gave: bool,
-}
-
-// One try at a heap.
-fn try_heap(h: Heap, n: Chosen, t: Terms) -> Tried
+// Does a heap give its top: has it one, and need that one not wait?
+fn gives(h: Heap, n: Chosen, t: Terms) -> bool
     requires { ⌜ Open t h n ⌝ }
-    ensures { λ r. ⌜ Outcome h n r (tryHeap ipv4 (toTerms t) (n .size) (notedOf (n .rows) (n .sent) (n .count)) (heapView h)) ⌝ }
+    ensures { λ r. ⌜ r ≡ gave ipv4 (tryHeap ipv4 (toTerms t) (n .size) (notedOf (n .rows) (n .sent) (n .count)) (heapView h)) ⌝ }
 {
     if h.len == 0 {
-        return Tried {
-            heap: h,
-            chosen: n,
-            gave: false,
-        };
+        return false;
     }
     let es = h.entries;
     let top = es[0];
-    if barred(n, top, t.max_size) {
-        return Tried {
-            heap: h,
-            chosen: n,
-            gave: false,
-        };
+    !barred(n, top, t.max_size)
+}
+
+// The top of a heap is noted, where it is given.
+fn note_top(n: Chosen, h: Heap, given: bool) -> Chosen
+    requires { ⌜ (given ≡ true → Room n (topOf h)) ⌝ }
+    ensures { λ r. ⌜ NotedIf given n (topOf h) r ⌝ }
+{
+    if !given {
+        return n;
     }
-    let heap = after_top(h, top, t.limit);
-    let chosen = note(n, top);
-    Tried {
-        heap,
-        chosen,
-        gave: true,
+    let es = h.entries;
+    let top = es[0];
+    note(n, top)
+}
+
+// The heap after its top was taken, where it is given.
+fn spend_top(h: Heap, given: bool, limit: u64) -> Heap
+    requires { ⌜ (given ≡ true → Packed h × (0 < h .len) × (topOf h .sends ≤ 22)) ⌝ }
+    ensures { λ r. ⌜ r ≡ pick given (packHeap (takeTop ipv4 limit (toEntry (topOf h)) (heapView h) .heap)) h ⌝ }
+{
+    if !given {
+        return h;
     }
+    let es = h.entries;
+    let top = es[0];
+    after_top(h, top, limit)
 }
 
 // One more where a heap gave one.
@@ -303,15 +305,14 @@ pub fn choose(alive: Heap, deceased: Heap, t: Terms) -> Choice
             break;
         }
         let before = n.count;
-        // Both tries share one place on the stack.
-        let mut tried = try_heap(a, n, t);
-        a = tried.heap;
-        n = tried.chosen;
-        from_alive = plus(from_alive, tried.gave);
-        tried = try_heap(d, n, t);
-        d = tried.heap;
-        n = tried.chosen;
-        from_deceased = plus(from_deceased, tried.gave);
+        let living = gives(a, n, t);
+        n = note_top(n, a, living);
+        a = spend_top(a, living, t.limit);
+        from_alive = plus(from_alive, living);
+        let dead = gives(d, n, t);
+        n = note_top(n, d, dead);
+        d = spend_top(d, dead, t.limit);
+        from_deceased = plus(from_deceased, dead);
         if n.count == before {
             break;
         }

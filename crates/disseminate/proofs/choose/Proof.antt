@@ -9,8 +9,8 @@ use Rattle.heap.specs.Views.{heapView}
 use Rattle.disseminate.specs.declared.Chosen.{Chosen}
 use Rattle.disseminate.specs.declared.Choice.{Choice}
 use Rattle.disseminate.specs.Views.{toTerms}
-use Rattle.disseminate.proofs.Stepping.{with-alive, with-deceased, open-alive, open-deceased, counts-fit, alive-tried, deceased-tried}
-use Rattle.disseminate.proofs.Choosing.{Going, begins, over-is, ends-out, ends-over, ends-stop, goes-on}
+use Rattle.disseminate.proofs.Stepping.{open-alive, counts-fit, may-note, may-spend}
+use Rattle.disseminate.proofs.Choosing.{Going, begins, over-is, ends-out, ends-over, opens, round-stops, round-goes-on}
 use borrow.Author.Needs.{needs}
 use Rattle.disseminate.proofs.choose.Statement.{statement}
 use Rattle.disseminate.proofs.choose.Tie as tie
@@ -40,53 +40,87 @@ add-over c =
     let q = r .deceased .few in
     search needs
 
-try-heap-requires : tie.Need-try-heap-requires Inv-loop μ-loop
-try-heap-requires c κs =
+gives-requires : tie.Need-gives-requires Inv-loop μ-loop
+gives-requires c κs =
     let l = c .before .before .before .before .before in
     open-alive (l .before .before .args .t) _ (l .loop .inv .1 .ready)
 
-try-heap-requires-2 : tie.Need-try-heap-requires-2 Inv-loop μ-loop
-try-heap-requires-2 c κs =
-    let x = c .before .before .before in
-    let l = x .before .before .before .before .before .before in
-    open-deceased (l .before .before .args .t) _ (alive-tried (l .before .before .args .t) _ (l .loop .inv .1 .ready) (x .try-heap .result) (x .try-heap .ensures) .1)
+note-top-requires : tie.Need-note-top-requires Inv-loop μ-loop
+note-top-requires c κs =
+    let l = c .before .before .before .before .before .before in
+    let t = l .before .before .args .t in
+    may-note t _ _ (open-alive t _ (l .loop .inv .1 .ready)) (c .gives .result) (c .gives .ensures)
+
+spend-top-requires : tie.Need-spend-top-requires Inv-loop μ-loop
+spend-top-requires c κs =
+    let g = c .before in
+    let l = g .before .before .before .before .before .before in
+    let t = l .before .before .args .t in
+    may-spend t _ _ (open-alive t _ (l .loop .inv .1 .ready)) (g .gives .result) (g .gives .ensures)
 
 plus-requires : tie.Need-plus-requires Inv-loop μ-loop
 plus-requires c κs =
     let l = c .before .before .before .before .before .before .before .before in
     counts-fit (l .before .before .args .t) _ (l .loop .inv .1 .ready) .0
 
+gives-requires-2 : tie.Need-gives-requires-2 Inv-loop μ-loop
+gives-requires-2 c κs =
+    let s = c .before in
+    let n = s .before in
+    let g = n .before in
+    let o = g .before in
+    let i = o .before .before .before .before in
+    let l = i .before in
+    let t = l .before .before .args .t in
+    opens t _ _ (l .loop .left) (l .loop .inv .1) (i .loop-test .taken) (sym (over-is t _ _ (l .loop .inv .1 .ready) (o .before .over .ensures)) ∙ o .if1 .left) (g .gives .result) (n .note-top .result) (s .spend-top .result) (c .plus .result) (g .gives .ensures) (n .note-top .ensures) (s .spend-top .ensures) (c .plus .ensures)
+
+note-top-requires-2 : tie.Need-note-top-requires-2 Inv-loop μ-loop
+note-top-requires-2 c κs =
+    may-note _ _ _ (gives-requires-2 (c .before) κs) (c .gives2 .result) (c .gives2 .ensures)
+
+spend-top-requires-2 : tie.Need-spend-top-requires-2 Inv-loop μ-loop
+spend-top-requires-2 c κs =
+    let g = c .before in
+    may-spend _ _ _ (gives-requires-2 (g .before) κs) (g .gives2 .result) (g .gives2 .ensures)
+
 plus-requires-2 : tie.Need-plus-requires-2 Inv-loop μ-loop
 plus-requires-2 c κs =
     let l = c .before .before .before .before .before .before .before .before .before .before .before .before in
     counts-fit (l .before .before .args .t) _ (l .loop .inv .1 .ready) .1
 
+sub-left : tie.Need-sub-left Inv-loop μ-loop
+sub-left c =
+    let i = c .before .before .before .before .before .before .before .before .before .before .before .before .before .before in
+    let some = i .loop-test .taken in
+    search needs
+
+loop-less : tie.Need-loop-less Inv-loop μ-loop
+loop-less c =
+    let i = c .before .before .before .before .before .before .before .before .before .before .before .before .before .before in
+    let some = i .loop-test .taken in
+    search needs
+
 loop-again : tie.Need-loop-again Inv-loop μ-loop
 loop-again c =
     let w = c .before .before in
-    let y = w .before .before .before in
-    let v = y .before in
-    let x = v .before .before .before in
-    let o = x .before in
+    let d = w .before in
+    let m = d .before in
+    let h = m .before in
+    let v = h .before in
+    let a = v .before in
+    let n = a .before in
+    let g = n .before in
+    let o = g .before in
     let i = o .before .before .before .before in
     let l = i .before in
-    let t = l .before .before .args .t in
-    let k : Choice = choice (l .loop .a) (l .loop .d) (l .loop .n) (l .loop .from-alive) (l .loop .from-deceased) in
-    let p = alive-tried t k (l .loop .inv .1 .ready) (x .try-heap .result) (x .try-heap .ensures) in
-    let q = deceased-tried t (with-alive k (x .try-heap .result)) (p .1) (y .try-heap2 .result) (y .try-heap2 .ensures) in
-    let next : Choice = with-deceased (with-alive k (x .try-heap .result)) (y .try-heap2 .result) in
-    let same : next ≡ choice (x .try-heap .result .heap) (y .try-heap2 .result .heap) (y .try-heap2 .result .chosen) (v .plus .result) (w .plus2 .result) =
-    λ j. choice (x .try-heap .result .heap) (y .try-heap2 .result .heap) (y .try-heap2 .result .chosen) (sym (v .plus .ensures) j) (sym (w .plus2 .ensures) j) in (
+    let t = l .before .before .args .t in (
       search needs,
-      subst (λ (m : Choice). Going t (choose ipv4 (toTerms t) (heapView (l .before .before .args .alive)) (heapView (l .before .before .args .deceased))) m (l .loop .left - 1)) same
-          (goes-on t _ k (l .loop .left) (l .loop .inv .1) (i .loop-test .taken)
-          (sym (over-is t k _ (l .loop .inv .1 .ready) (o .before .over .ensures)) ∙ o .if1 .left)
-          (with-alive k (x .try-heap .result))
-          next
-          (p .0)
-          (q .0)
-          (q .1)
-          (c .if2 .left)),
+      round-goes-on t _ _ (l .loop .left) (l .loop .inv .1) (i .loop-test .taken) (sym (over-is t _ _ (l .loop .inv .1 .ready) (o .before .over .ensures)) ∙ o .if1 .left)
+          (g .gives .result) (n .note-top .result) (a .spend-top .result) (v .plus .result)
+          (g .gives .ensures) (n .note-top .ensures) (a .spend-top .ensures) (v .plus .ensures)
+          (h .gives2 .result) (m .note-top2 .result) (d .spend-top2 .result) (w .plus2 .result)
+          (h .gives2 .ensures) (m .note-top2 .ensures) (d .spend-top2 .ensures) (w .plus2 .ensures)
+          (c .if2 .left),
     )
 
 returns : tie.Need-returns Inv-loop μ-loop
@@ -103,27 +137,22 @@ returns-2 c =
 returns-3 : tie.Need-returns-3 Inv-loop μ-loop
 returns-3 c =
     let w = c .before .before in
-    let y = w .before .before .before in
-    let v = y .before in
-    let x = v .before .before .before in
-    let o = x .before in
+    let d = w .before in
+    let m = d .before in
+    let h = m .before in
+    let v = h .before in
+    let a = v .before in
+    let n = a .before in
+    let g = n .before in
+    let o = g .before in
     let i = o .before .before .before .before in
     let l = i .before in
     let t = l .before .before .args .t in
-    let k : Choice = choice (l .loop .a) (l .loop .d) (l .loop .n) (l .loop .from-alive) (l .loop .from-deceased) in
-    let p = alive-tried t k (l .loop .inv .1 .ready) (x .try-heap .result) (x .try-heap .ensures) in
-    let q = deceased-tried t (with-alive k (x .try-heap .result)) (p .1) (y .try-heap2 .result) (y .try-heap2 .ensures) in
-    let next : Choice = with-deceased (with-alive k (x .try-heap .result)) (y .try-heap2 .result) in
-    let same : next ≡ choice (x .try-heap .result .heap) (y .try-heap2 .result .heap) (y .try-heap2 .result .chosen) (v .plus .result) (w .plus2 .result) =
-    λ j. choice (x .try-heap .result .heap) (y .try-heap2 .result .heap) (y .try-heap2 .result .chosen) (sym (v .plus .ensures) j) (sym (w .plus2 .ensures) j) in
-    sym same
-    ∙ ends-stop t _ k (l .loop .left) (l .loop .inv .1) (i .loop-test .taken)
-    (sym (over-is t k _ (l .loop .inv .1 .ready) (o .before .over .ensures)) ∙ o .if1 .left)
-    (with-alive k (x .try-heap .result))
-    next
-    (p .0)
-    (q .0)
-    (q .1)
+    round-stops t _ _ (l .loop .left) (l .loop .inv .1) (i .loop-test .taken) (sym (over-is t _ _ (l .loop .inv .1 .ready) (o .before .over .ensures)) ∙ o .if1 .left)
+    (g .gives .result) (n .note-top .result) (a .spend-top .result) (v .plus .result)
+    (g .gives .ensures) (n .note-top .ensures) (a .spend-top .ensures) (v .plus .ensures)
+    (h .gives2 .result) (m .note-top2 .result) (d .spend-top2 .result) (w .plus2 .result)
+    (h .gives2 .ensures) (m .note-top2 .ensures) (d .spend-top2 .ensures) (w .plus2 .ensures)
     (c .if2 .taken)
 
 pub choose-spec : {M : Type 1} → statement M
@@ -136,12 +165,16 @@ choose-spec =
     loop-holds
     add-over
     (λ c κs. search needs)
-    try-heap-requires
+    gives-requires
+    note-top-requires
+    spend-top-requires
     plus-requires
-    try-heap-requires-2
+    gives-requires-2
+    note-top-requires-2
+    spend-top-requires-2
     plus-requires-2
-    (λ c. search needs)
-    (λ c. search needs)
+    sub-left
+    loop-less
     loop-again
     returns
     returns-2
