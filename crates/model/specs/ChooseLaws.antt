@@ -165,16 +165,51 @@ module _ {A : Type 0} (address : Address A) where
       mul-more : (x y : ℕ) → x * (y + 1) ≡ x * y + x
       mul-more x y = native.Mathlib.Nat.mul-add x y 1 ∙ ap (λ (z : ℕ). x * y + z) (native.Mathlib.Nat.mul-one x)
 
-  pub rounds-within : (least : ℕ) (t : Terms) (f : ℕ) (c : Choice A) → Within least t c → Within least t (rounds address f t c)
-  rounds-within least t f c g =
-      rounds-keep t (Within least t)
-      (λ c₁ k p v.
-      let r = taken-least least t (c₁ .size) (c₁ .alive) k (p .alive) v in
-      record { alive = r .0; deceased = p .deceased; counted = one-more least (c₁ .size) (k .size) (c₁ .chosen) (k .gossip) (p .counted) (r .1); fits = r .2 })
-      (λ c₁ k p v.
-      let r = taken-least least t (c₁ .size) (c₁ .deceased) k (p .deceased) v in
-      record { alive = p .alive; deceased = r .0; counted = one-more least (c₁ .size) (k .size) (c₁ .chosen) (k .gossip) (p .counted) (r .1); fits = r .2 })
-      f c g
+  module _ (least : ℕ) (t : Terms) where
+    alive-within : (c : Choice A) (k : Taken A) → Within least t c → Gave t (c .size) (c .alive) k → Within least t (afterAlive address c (some k))
+    alive-within c k p v =
+        let r = taken-least least t (c .size) (c .alive) k (p .alive) v in
+        record { alive = r .0; deceased = p .deceased; counted = one-more least (c .size) (k .size) (c .chosen) (k .gossip) (p .counted) (r .1); fits = r .2 }
+
+    deceased-within : (c : Choice A) (k : Taken A) → Within least t c → Gave t (c .size) (c .deceased) k → Within least t (afterDeceased address c (some k))
+    deceased-within c k p v =
+        let r = taken-least least t (c .size) (c .deceased) k (p .deceased) v in
+        record { alive = p .alive; deceased = r .0; counted = one-more least (c .size) (k .size) (c .chosen) (k .gossip) (p .counted) (r .1); fits = r .2 }
+
+    pub rounds-within : (f : ℕ) (c : Choice A) → Within least t c → Within least t (rounds address f t c)
+    rounds-within = rounds-keep t (Within least t) alive-within deceased-within
+
+    -- a round that goes on takes one at least
+    longer : (c : Choice A) (a b : Option (Taken A)) → (gave address a || gave address b) ≡ true → length (c .chosen) < length (afterDeceased address (afterAlive address c a) b .chosen)
+    longer c none none e = let z : _≡_ {A = ℕ} 0 1 = cc in absurd (omega arith)
+    longer c none (some k) e = omega (arith, length-append (c .chosen) (k .gossip ∷ []))
+    longer c (some j) none e = omega (arith, length-append (c .chosen) (j .gossip ∷ []))
+    longer c (some j) (some k) e = omega (arith, length-append (c .chosen ++ (j .gossip ∷ [])) (k .gossip ∷ []), length-append (c .chosen) (j .gossip ∷ []))
+
+    -- a round, by whether it is over and whether a heap gave one
+    abbrev turn : Choice A → Choice A → Bool → Bool → Choice A
+    turn c next u v = elim u [ true ↦ c | false ↦ elim v [ true ↦ next | false ↦ c ] ]
+
+    -- where nothing within the size has as many as k records, k rounds are enough: more of them give the same
+    module _ (k : ℕ) (few : (c : Choice A) → Within least t c → length (c .chosen) < k) where
+      pub rounds-enough : (f g : ℕ) (c : Choice A) → Within least t c → k ≤ length (c .chosen) + f → f ≤ g → rounds address g t c ≡ rounds address f t c
+      unfolding rounds
+      rounds-enough zero g c w h l = absurd (omega (arith, few c w))
+      rounds-enough (suc f) zero c w h l = absurd (omega arith)
+      rounds-enough (suc f) (suc g) c w h l =
+          let a = tryAlive address t c in
+          let c₁ = afterAlive address c a in
+          let b = tryDeceased address t c₁ in
+          let c₂ = afterDeceased address c₁ b in
+          let w₂ : Within least t c₂ = after-deceased t (Within least t) alive-within deceased-within c₁ b refl (after-alive t (Within least t) alive-within deceased-within c a refl w) in
+          elim (over address t c) as (λ u. turn c (rounds address g t c₂) u (gave address a || gave address b) ≡ turn c (rounds address f t c₂) u (gave address a || gave address b)) [
+            | true ↦ refl
+            | false ↦
+                (elim (gave address a || gave address b) as (λ v. (gave address a || gave address b) ≡ v → turn c (rounds address g t c₂) false v ≡ turn c (rounds address f t c₂) false v) [
+                  | true ↦ λ e. rounds-enough f g c₂ w₂ (omega (arith, longer c a b e)) (omega arith)
+                  | false ↦ λ e. refl
+                ]) refl
+          ]
 
   -- count × least size ≤ max_size, whatever the least size is
   pub chosen-fit : (least : ℕ) (t : Terms) (alive deceased : List (Entry A)) → every (atLeast least) alive ≡ true → every (atLeast least) deceased ≡ true

@@ -3,7 +3,7 @@
 use mathlib.Core.Path.{_≡_, refl, ap, sym, _∙_}
 use mathlib.Core.Bool.{Bool, true, false, _&&_}
 use mathlib.Core.List.{List}
-use Prim.Native.Nat.{ℕ, _*_, _≤_}
+use Prim.Native.Nat.{ℕ, _*_, _≤_, _<_}
 use native.Mathlib.Omega.{arith}
 use lib.ListN.{length}
 use lib.Dec.{eqb, leb}
@@ -12,12 +12,12 @@ use Rattle.model.specs.Rows.{every}
 use Rattle.model.specs.Words.{Event, Nothing, Joined, Recovered, Suspected, Deceased, Gossip, Entry, partsOf}
 use Rattle.model.specs.Size.{sizeOf}
 use Rattle.model.specs.IPv4.{ipv4}
-use Rattle.model.specs.Choose.{Terms, choose}
+use Rattle.model.specs.Choose.{Terms, rounds, begin, choose}
 use Rattle.model.specs.Sound.{Kind, AliveKind, DeceasedKind, ofKind, validGossip, soundEntry}
 use Rattle.model.specs.Bools.{and-split, every-weaken}
 use Rattle.model.specs.SizeLaws.{size-over-ipv4}
 use Rattle.model.specs.Good.{GoodHeap}
-use Rattle.model.specs.ChooseLaws.{atLeast, chosen-fit}
+use Rattle.model.specs.ChooseLaws.{atLeast, rounds-enough, chosen-fit}
 
 -- a record of no event is of no heap's kind
 no-kind : {B : Type 0} (k : Kind) → ofKind k 0 ≡ true → B
@@ -51,3 +51,16 @@ pub at-most-58 : (t : Terms) (alive deceased : List (Entry ℕ)) → t .max-size
     → length (choose ipv4 t alive deceased .chosen) ≤ 58
 at-most-58 t alive deceased h g k =
     omega (arith, chosen-fit ipv4 24 t alive deceased (heap-least AliveKind alive g) (heap-least DeceasedKind deceased k))
+
+-- so a 60th round is never the first to change something: any number of rounds from 59 on gives the same choice
+pub choose-enough : (t : Terms) (alive deceased : List (Entry ℕ)) (f : ℕ) → 59 ≤ f → t .max-size ≤ 1400 → GoodHeap ipv4 AliveKind alive → GoodHeap ipv4 DeceasedKind deceased
+    → rounds ipv4 f t (begin ipv4 alive deceased) ≡ choose ipv4 t alive deceased
+unfolding choose
+choose-enough t alive deceased f h s g k = enough f h ∙ sym (enough 64 (omega arith))
+  where
+    enough : (n : ℕ) → 59 ≤ n → rounds ipv4 n t (begin ipv4 alive deceased) ≡ rounds ipv4 59 t (begin ipv4 alive deceased)
+    enough n l =
+        rounds-enough ipv4 24 t 59 (λ c w. omega (arith, w .counted, w .fits)) 59 n (begin ipv4 alive deceased)
+        (record { alive = heap-least AliveKind alive g; deceased = heap-least DeceasedKind deceased k; counted = omega arith; fits = omega arith })
+        (omega arith)
+        l
