@@ -2,16 +2,15 @@
 -- Assumes nothing.
 use mathlib.Core.Path.{_≡_, refl, sym, _∙_, ap, subst}
 use mathlib.Core.Bool.{Bool, true, false, _&&_, _||_}
-use mathlib.Core.List.{List, []}
-use Prim.Native.Nat.{ℕ, zero, suc, _+_, _-_, _≤_, _<_}
+use Prim.Native.Nat.{ℕ, suc, _+_, _-_, _≤_, _<_}
 use native.Mathlib.Omega.{arith}
 use lib.Dec.{eqb, leb}
 use lib.ListN.{length}
-use Rattle.model.specs.Rows.{isEmpty, one, pick}
+use Rattle.model.specs.Rows.{one, pick}
 use Rattle.model.specs.IPv4.{ipv4}
 use Rattle.model.specs.Words as W
 use Rattle.model.specs.Choose as M
-use Rattle.model.specs.Choose.{tryAlive, tryDeceased, afterAlive, afterDeceased, gave, over, rounds, begin, choose}
+use Rattle.model.specs.Choose.{tryAlive, tryDeceased, afterAlive, afterDeceased, gave, over, rounds, choose}
 use Rattle.model.specs.Chosen.{heap-least}
 use Rattle.model.specs.Sound.{AliveKind, DeceasedKind}
 use Rattle.model.specs.Good.{GoodHeap}
@@ -20,7 +19,7 @@ use Rattle.heap.specs.Views.{heapView, packHeap, Packed, view-length}
 use Rattle.disseminate.specs.declared.Terms.{Terms}
 use Rattle.disseminate.specs.declared.Chosen.{Chosen}
 use Rattle.disseminate.specs.declared.Choice.{Choice}
-use Rattle.disseminate.specs.Views.{noted, toTerms, chosenNone, choiceView, packChoice, PackedChosen, NotedIf, topOf, Open, Ready}
+use Rattle.disseminate.specs.Views.{noted, toTerms, chosenNone, choiceView, packChoice, NotedIf, topOf, Open, Ready}
 use Rattle.disseminate.proofs.Noting.{chosen-length, pack-choice}
 use Rattle.disseminate.proofs.Stepping.{tried, without-top, with-alive, with-deceased, open-alive, open-deceased, alive-turn, deceased-turn}
 use Rattle.disseminate.proofs.Trying.{held-none, turned, rounds-over, rounds-stop, rounds-more}

@@ -2,13 +2,13 @@
 -- Assumes nothing.
 use mathlib.Core.Path.{_≡_, refl, sym, _∙_, ap, subst}
 use mathlib.Core.Bool.{Bool, true, false, not, _||_}
-use mathlib.Core.List.{List, [], _∷_, _++_}
+use mathlib.Core.List.{_∷_}
 use mathlib.Core.Option.{Option, none, some}
-use Prim.Native.Nat.{ℕ, zero, suc, _+_, _-_, _*_, _≤_, _<_}
+use Prim.Native.Nat.{ℕ, zero, suc, _+_, _*_, _≤_, _<_}
 use native.Mathlib.Omega.{arith}
 use native.Mathlib.Nat.{add-zero}
-use lib.Dec.{ltb, leb}
-use lib.ListN.{length, getD, drop, take, List·getD-map}
+use lib.Dec.{ltb}
+use lib.ListN.{drop, take, List·getD-map}
 use lib.Seq.{drop-cons, getD-take}
 use borrow.Author.Tests.{ltb-false, leb-true}
 use Rattle.model.specs.Rows.{every, one, pick}
@@ -20,14 +20,13 @@ use Rattle.model.specs.Choose.{wasNoted, takeTop, tryHeap, gave, tryAlive, tryD
 use Rattle.model.specs.ChooseLaws.{atLeast}
 use Rattle.model.specs.Sound.{Kind, AliveKind, DeceasedKind, soundEntry}
 use Rattle.model.specs.Good.{GoodHeap}
-use Rattle.types.specs.Views.{toGossip}
 use Rattle.heap.specs.declared.Entry.{Entry}
 use Rattle.heap.specs.declared.Heap.{Heap}
 use Rattle.heap.specs.Views.{toEntry, noEntry, heapView, packHeap, Packed, view-length, view-pack, packed-pack}
 use Rattle.disseminate.specs.declared.Terms.{Terms}
 use Rattle.disseminate.specs.declared.Chosen.{Chosen}
 use Rattle.disseminate.specs.declared.Choice.{Choice}
-use Rattle.disseminate.specs.Views.{noted, toTerms, choiceView, PackedChosen, NotedOne, Room, NotedIf, topOf, Open, Kept, Ready}
+use Rattle.disseminate.specs.Views.{noted, toTerms, choiceView, NotedOne, Room, NotedIf, topOf, Open, Kept, Ready}
 use Rattle.disseminate.proofs.Noting.{chosen-length}
 use Rattle.disseminate.proofs.Trying.{try-empty, try-barred, try-takes, kept-alive, kept-deceased, sound-most}
 

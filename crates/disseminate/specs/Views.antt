@@ -128,7 +128,7 @@ NotedIf true n e r = NotedOne n (toGossip (e .gossip)) (e .sends + 1) (e .size) 
 -- what a try asks for: the heap's top is an entry as a good heap holds them, and what is chosen fits, 24 bytes each at least
 pub record Open (t : Terms) (h : Heap) (n : Chosen) : Type 0 where
   pub heap : Packed h
-  pub top : 0 < h .len → (24 ≤ getD (h .entries) 0 noEntry .size) × (getD (h .entries) 0 noEntry .size ≤ 59) × (getD (h .entries) 0 noEntry .sends ≤ 22)
+  pub top : 0 < h .len → (24 ≤ topOf h .size) × (topOf h .size ≤ 59) × (topOf h .sends ≤ 22)
   pub chosen : PackedChosen n
   pub counted : 24 * n .count ≤ n .size
   pub fits : n .size ≤ t .«max_size»

@@ -195,7 +195,7 @@ fn barred(n: Chosen, top: Entry, max_size: u64) -> bool
 
 // An entry is chosen, and noted with one send more.
 fn note(n: Chosen, top: Entry) -> Chosen
-    requires { ⌜ PackedChosen n × (n .count < 64) × (n .size ≤ 1400) × (top .size ≤ 1400) × (top .sends ≤ 22) ⌝ }
+    requires { ⌜ Room n top ⌝ }
     ensures { λ r. ⌜ NotedOne n (toGossip (top .gossip)) (top .sends + 1) (top .size) r ⌝ }
 {
     let count = n.count;

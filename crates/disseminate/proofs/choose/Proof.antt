@@ -1,7 +1,7 @@
 -- `disseminate::choose` meets its contract: what is left of the rounds leads to the model's choice.
 -- Assumes nothing.
-use mathlib.Core.Path.{_≡_, sym, _∙_, subst}
-use Prim.Native.Nat.{ℕ, _≤_, _-_}
+use mathlib.Core.Path.{_≡_, sym, _∙_}
+use Prim.Native.Nat.{ℕ, _≤_}
 use Rattle.model.specs.IPv4.{ipv4}
 use Rattle.model.specs.Choose.{choose}
 use Rattle.heap.specs.declared.Heap.{Heap}

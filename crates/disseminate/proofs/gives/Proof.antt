@@ -1,7 +1,6 @@
 -- `disseminate::gives` meets its contract: each way out is a way out of the model's try.
 -- Assumes nothing.
-use mathlib.Core.Path.{_≡_, sym, ap}
-use Prim.Native.Nat.{ℕ, _<_}
+use mathlib.Core.Path.{sym, ap}
 use native.Mathlib.Nat.{pos-of-ne-zero}
 use Rattle.model.specs.IPv4.{ipv4}
 use Rattle.model.specs.Choose.{gave}

@@ -1,6 +1,5 @@
 -- `disseminate::spend_top` meets its contract: the top is taken, or nothing is.
 -- Assumes nothing.
-use mathlib.Core.Path.{_≡_}
 use borrow.Author.Needs.{needs}
 use borrow.Author.Tests.{not-true, not-false}
 use Rattle.disseminate.proofs.spend_top.Statement.{statement}
