@@ -14,6 +14,6 @@ BEGIN {
   words["step-await-reqack"] = "step, waiting for PingReqAck"
   words["step-declare"] = "step, Declaring"
   words["timer"] = "timer call"
-  words["preparing"] = "what prepares these: 61 joins or deaths in an Ack"
+  words["preparing"] = "what prepares these: adds, steps, Acks of 61 records"
   words["stored"] = "any call of the stored list"
 }
