@@ -2,84 +2,275 @@
 -- older message do it?"
 -- Assumes nothing.
 use mathlib.Core.Path.{_≡_, refl, ap, sym, _∙_}
-use mathlib.Core.Bool.{Bool, true, false, not, _&&_}
-use mathlib.Core.List.{List, [], _∷_}
-use Prim.Native.Nat.{ℕ, _≤_}
+use mathlib.Core.Bool.{true, false}
+use mathlib.Core.List.{List, [], _∷_, _++_}
+use mathlib.Core.Logic.{_⊎_, inl, inr}
+use mathlib.Core.Option.{Option, none, some}
+use Prim.Native.Nat.{ℕ, zero, suc, _≤_, _<_}
 use native.Mathlib.Omega.{arith}
+use lib.ListN.{length, getD, drop}
 use lib.Dec.{leb}
 use borrow.Author.Tests.{leb-true}
 use Rattle.model.specs.declared.Settings.{Settings}
 use Rattle.model.specs.Bools.{and-split}
-use Rattle.model.specs.Words.{Address, Lawful, Event, Nothing, Joined, Recovered, Suspected, Deceased, SendingPing}
-use Rattle.model.specs.Node.{Node, Stored, lists, numbered}
+use Rattle.model.specs.Bounds.{Room}
+use Rattle.model.specs.Words.{Address, Lawful, Event, Nothing, Joined, Recovered, Suspected, Deceased, Gossip, Action, Ping, PingReq, Ack, Timer, WaitState, SendingPing, WaitingForPingAck, SendingPingReq, WaitingForPingReqAck, Declaring, noTimer}
+use Rattle.model.specs.Node.{Node, Stored, loaded, lists, numbered}
+use Rattle.model.specs.Detector.{firstOver}
+use Rattle.model.specs.KeepsCalls.{first-over-in}
 use Rattle.model.specs.Calls.{created, create}
-use Rattle.history.specs.Moments.{Deed, Told, Sender, Added, Pinged, Asked, Ended, Other, Moment}
-use Rattle.history.specs.Ledger.{Tally, goes, step}
-use Rattle.history.specs.Did.{Fine}
-use Rattle.history.specs.Walk.{Along}
+use Rattle.history.specs.Moments.{Deed, Told, Sender, Added, Other, Moment, pingedDeed}
+use Rattle.history.specs.Ledger.{Tally, goes, asks, tally}
 use Rattle.history.specs.Rules.{never}
-use Rattle.history.specs.Histories.{World, Call, trace}
-use Rattle.history.specs.Demand3.{fine}
+use Rattle.history.specs.Histories as calls
+use Rattle.history.specs.Histories.{World, Call, Add, Receive, Step, outcome, worldOf, run, moments, trace}
+use Rattle.history.specs.Tells.{At, Leads, records, messageDeeds, stepDeeds, timerDeeds, asked, deedsOf}
+use Rattle.history.specs.Worlds.{Stands, stands, call-stands}
+use Rattle.history.specs.Next.{at-is, Known, Left, deed-at, fine-at, goes-out, at-asked, known-of}
+use Rattle.history.specs.Demand3 as demand3
+
+at-getD : {B : Type 0} (l : List B) (i : ℕ) (d : B) → i < length l → At l i (getD l i d)
+at-getD [] i d h = absurd (omega arith)
+at-getD (x ∷ l) zero d h = refl
+at-getD (x ∷ l) (suc i) d h = at-getD l i d (omega arith)
+
+-- a place of two lists, one behind the other
+at-append : {B : Type 0} (l k : List B) (i : ℕ) (x : B) → At (l ++ k) i x → At l i x ⊎ ((j : ℕ) × At k j x)
+at-append [] k i x p = inr (i, p)
+at-append (y ∷ l) k zero x p = inl p
+at-append (y ∷ l) k (suc i) x p = at-append l k i x p
 
 module _ {A : Type 0} (address : Address A) (a : A) where
-  -- what took it out: one Deceased gossip of one message, whose number is no lower than the held one; or one ended timer
-  pub data Cause (m : Moment A) : Type 0 where
-    notice : (from b : A) (n : ℕ) → m .deed ≡ Told (Deceased from b n) → address .same a b ≡ true → numbered address a (m .before) ≤ n → Cause m
-    timeOut : (b : A) (n : ℕ) → m .deed ≡ Ended b n → address .same a b ≡ true → Cause m
+  -- What took the address out at place i of a call's moments, on the world w. A message did: its record i is a Deceased gossip for the address,
+  -- whose number is no lower than the one held at that moment. Or a timer did: the first that was over, and it was the address's
+  pub data Cause (c : Call A) (w : World A) (i held : ℕ) : Type 0 where
+    notice : (action : Action A) (gs : List (Gossip A)) (ds : List ℕ) (lent : Room) (from : A) (n : ℕ)
+        → c ≡ Receive action gs ds lent → At gs i (record { event = Deceased from a n }) → held ≤ n → Cause c w i held
+    timeOut : (now : ℕ) (lent : Room) (j : ℕ) (t : Timer A)
+        → c ≡ calls.Timer now lent → firstOver address (w .node .settings .«suspect_timeout») now (loaded (w .node) .timers) ≡ some j → At (loaded (w .node) .timers) j t → t .addr ≡ a → Cause c w i held
 
-  cause-of : (m : Moment A) (d : Deed A) → m .deed ≡ d → goes address a d (m .before) ≡ true → Cause m
-  cause-of m (Told Nothing) e g = never g
-  cause-of m (Told (Joined f b n)) e g = never g
-  cause-of m (Told (Recovered f b n)) e g = never g
-  cause-of m (Told (Suspected f b n)) e g = never g
-  cause-of m (Told (Deceased f b n)) e g =
-      let p = and-split (address .same a b) (leb (numbered address a (m .before)) n) g in
-      notice f b n e (p .0) (leb-true (numbered address a (m .before)) n (p .1))
-  cause-of m (Sender b) e g = never g
-  cause-of m (Added b n) e g = never g
-  cause-of m (Pinged b) e g = never g
-  cause-of m (Asked b n) e g = never g
-  cause-of m (Ended b n) e g = timeOut b n e g
-  cause-of m Other e g = never g
+  -- the address is listed after none of these moments
+  abbrev pub Absent : List (Moment A) → Type 0
+  Absent ms = (i : ℕ) (m : Moment A) → At ms i m → lists address a (m .after) ≡ false
 
-  goes-out : (l l′ g : Bool) → l ≡ true → l′ ≡ false → (l ≡ true → l′ ≡ not g) → g ≡ true
-  goes-out l l′ true p q h = refl
-  goes-out l l′ false p q h = never (sym q ∙ h p)
+  -- the call of a history that took the address out: which one it is, at which of its moments, and by what
+  pub record TakenOut (h : List (Call A)) (w : World A) : Type 0 where
+    pub earlier : List (Call A)
+    pub call : Call A
+    pub later : List (Call A)
+    pub splits : h ≡ earlier ++ (call ∷ later)
+    pub place : ℕ
+    pub moment : Moment A
+    pub at : At (moments address call (run address earlier w)) place moment
+    pub left : Left address a moment
+    pub cause : Cause call (run address earlier w) place (numbered address a (moment .before))
+    -- it did not come back: neither at a later moment of that call nor at one of a later call
+    pub out : Absent (drop (suc place) (moments address call (run address earlier w)) ++ trace address later (worldOf address (outcome address call (run address earlier w))))
 
-  -- at this moment the address left the list
-  abbrev pub Left : Moment A → Type 0
-  Left m = (lists address a (m .before) ≡ true) × (lists address a (m .after) ≡ false)
+  -- ---- a moment that the ledger counts as a departure
+  -- none of these deeds is a departure
+  abbrev Staying : Node A → List (Deed A) → Type 0
+  Staying s [] = Unit {0}
+  Staying s (d ∷ ds) = (goes address a d s ≡ false) × Staying s ds
 
-  abbrev pub Everywhere : (Moment A → Type 0) → List (Moment A) → Type 0
-  Everywhere P [] = Unit {0}
-  Everywhere P (m ∷ ms) = P m × Everywhere P ms
+  none-goes : {B : Type 0} (s : Node A) (ds : List (Deed A)) (i : ℕ) (d : Deed A) → Staying s ds → At ds i d → goes address a d s ≡ true → B
+  none-goes s (x ∷ ds) zero d p e g = never (sym (p .0) ∙ ap (λ (y : Deed A). goes address a y s) e ∙ g)
+  none-goes s (x ∷ ds) (suc i) d p e g = none-goes s ds i d (p .1) e g
 
-  causes : (own : A) (ms : List (Moment A)) (t : Tally) → Along address a own ms t → Everywhere (λ m. Left m → Cause m) ms
-  causes own [] t p = tt
-  causes own (m ∷ ms) t p =
-      ((λ l. cause-of m (m .deed) refl (goes-out _ _ _ (l .0) (l .1) (p .0 .leaves))), causes own ms (step address a m t) (p .1))
+  -- a place of a message's records
+  at-records : (gs : List (Gossip A)) (i : ℕ) (d : Deed A) → At (records gs) i d → (e : Event A) × At gs i (record { event = e }) × (d ≡ Told e)
+  at-records (g ∷ gs) zero d p = (g .event, refl, sym p)
+  at-records (g ∷ gs) (suc i) d p = at-records gs i d p
 
-  -- an older message: a Deceased gossip for this address whose number is below the held one
-  stays-on : (own : A) (ms : List (Moment A)) (t : Tally) → Lawful address → Along address a own ms t
-      → Everywhere (λ m. (from : A) (n : ℕ) → m .deed ≡ Told (Deceased from a n) → leb (numbered address a (m .before)) n ≡ false → lists address a (m .before) ≡ true → lists address a (m .after) ≡ true) ms
-  stays-on own [] t lawful p = tt
-  stays-on own (m ∷ ms) t lawful p = (
-    (λ from n e low l.
-        let g : goes address a (m .deed) (m .before) ≡ false = ap (λ (d : Deed A). goes address a d (m .before)) e ∙ rw (lawful .test .same-refl a) low in
-        p .0 .leaves l ∙ ap not g),
-    stays-on own ms (step address a m t) lawful (p .1),
-  )
+  module _ (lawful : Lawful address) where
+    record-goes : (c : Call A) (w : World A) (action : Action A) (gs : List (Gossip A)) (ds : List ℕ) (lent : Room) (i : ℕ) (s : Node A) → c ≡ Receive action gs ds lent
+        → (e : Event A) → At gs i (record { event = e }) → goes address a (Told e) s ≡ true → Cause c w i (numbered address a s)
+    record-goes c w action gs ds lent i s q Nothing p g = never g
+    record-goes c w action gs ds lent i s q (Joined f b n) p g = never g
+    record-goes c w action gs ds lent i s q (Recovered f b n) p g = never g
+    record-goes c w action gs ds lent i s q (Suspected f b n) p g = never g
+    record-goes c w action gs ds lent i s q (Deceased f b n) p g =
+        let v = and-split (address .same a b) (leb (numbered address a s) n) g in
+        notice action gs ds lent f n q (rw (lawful .test .same-eq a b (v .0)) p) (leb-true (numbered address a s) n (v .1))
+
+    -- what follows the records of a message takes nobody out
+    message-goes : (c : Call A) (w : World A) (action : Action A) (gs : List (Gossip A)) (ds : List ℕ) (lent : Room) (i : ℕ) (s : Node A) (d : Deed A) (rest : List (Deed A))
+        → c ≡ Receive action gs ds lent → Staying s rest → At (records gs ++ rest) i d → goes address a d s ≡ true → Cause c w i (numbered address a s)
+    message-goes c w action gs ds lent i s d rest q k p g = from (at-append (records gs) rest i d p)
+      where
+        from : At (records gs) i d ⊎ ((j : ℕ) × At rest j d) → Cause c w i (numbered address a s)
+        from (inl x) =
+            let v = at-records gs i d x in
+            record-goes c w action gs ds lent i s q (v .0) (v .1) (ap (λ (y : Deed A). goes address a y s) (sym (v .2)) ∙ g)
+        from (inr x) = none-goes s rest (x .0) d k (x .1) g
+
+    receive-goes : (c : Call A) (w : World A) (action : Action A) (gs : List (Gossip A)) (ds : List ℕ) (lent : Room) (i : ℕ) (s : Node A) (d : Deed A)
+        → c ≡ Receive action gs ds lent → At (messageDeeds action gs) i d → goes address a d s ≡ true → Cause c w i (numbered address a s)
+    receive-goes c w (Ping from by) gs ds lent i s d q p g = message-goes c w _ gs ds lent i s d (Sender from ∷ Other ∷ []) q (refl, (refl, tt)) p g
+    receive-goes c w (PingReq from about) gs ds lent i s d q p g = message-goes c w _ gs ds lent i s d (Other ∷ []) q (refl, tt) p g
+    receive-goes c w (Ack from none) gs ds lent i s d q p g = message-goes c w _ gs ds lent i s d (Other ∷ []) q (refl, tt) p g
+    receive-goes c w (Ack from (some to)) gs ds lent i s d q p g =
+        let v = at-records gs i d p in
+        record-goes c w _ gs ds lent i s q (v .0) (v .1) (ap (λ (y : Deed A). goes address a y s) (sym (v .2)) ∙ g)
+
+    ping-stays : (s : Node A) (st : WaitState A) → goes address a (pingedDeed address st) s ≡ false
+    ping-stays s SendingPing = refl
+    ping-stays s (WaitingForPingAck b n) = refl
+    ping-stays s (SendingPingReq b n) = refl
+    ping-stays s (WaitingForPingReqAck b n) = refl
+    ping-stays s (Declaring b n) = refl
+
+    step-stays : (s : Node A) (st next : WaitState A) → Staying s (stepDeeds address st next)
+    step-stays s SendingPing next = (ping-stays s next, tt)
+    step-stays s (WaitingForPingAck b n) next = tt
+    step-stays s (SendingPingReq b n) next = (refl, (refl, tt))
+    step-stays s (WaitingForPingReqAck b n) next = tt
+    step-stays s (Declaring b n) next = (refl, tt)
+
+    timer-goes : (c : Call A) (w : World A) (now : ℕ) (lent : Room) (o : Option ℕ) (i : ℕ) (s : Node A) (d : Deed A) → c ≡ calls.Timer now lent
+        → firstOver address (w .node .settings .«suspect_timeout») now (loaded (w .node) .timers) ≡ o
+        → At (timerDeeds address o (loaded (w .node))) i d → goes address a d s ≡ true → Cause c w i (numbered address a s)
+    timer-goes c w now lent (some j) zero s d q o p g =
+        let timers = loaded (w .node) .timers in
+        let t = getD timers j (noTimer address) in
+        timeOut now lent j t q o (at-getD timers j (noTimer address) (first-over-in address lawful (w .node .settings .«suspect_timeout») now timers j o))
+        (sym (lawful .test .same-eq a (t .addr) (ap (λ (y : Deed A). goes address a y s) p ∙ g)))
+
+    -- a departure of the ledger, at a place of what the call asked, has its cause
+    cause-at : (c : Call A) (w : World A) (next : WaitState A) (i : ℕ) (s : Node A) (d : Deed A) → At (asked address c w next) i d → goes address a d s ≡ true → Cause c w i (numbered address a s)
+    cause-at (Add b n ds) w next i s d p g = none-goes s (Added b n ∷ []) i d (refl, tt) p g
+    cause-at (Receive action gs ds lent) w next i s d p g = receive-goes _ w action gs ds lent i s d refl p g
+    cause-at (Step now ds lent) w next i s d p g = none-goes s (stepDeeds address (w .wait .state) next) i d (step-stays s (w .wait .state) next) p g
+    cause-at (calls.Timer now lent) w next i s d p g = timer-goes _ w now lent _ i s d refl refl p g
+
+  absent-more : (m : Moment A) (ms : List (Moment A)) → lists address a (m .after) ≡ false → Absent ms → Absent (m ∷ ms)
+  absent-more m ms g p zero x e = ap (λ (y : Moment A). lists address a (y .after)) (sym e) ∙ g
+  absent-more m ms g p (suc i) x e = p i x e
+
+  absent-append : (ms ns : List (Moment A)) → Absent ms → Absent ns → Absent (ms ++ ns)
+  absent-append [] ns p q = q
+  absent-append (m ∷ ms) ns p q = absent-more m (ms ++ ns) (p zero m refl) (absent-append ms ns (λ j y v. p (suc j) y v) q)
+
+  -- the last moment at which the address left
+  record LeftLast (ms : List (Moment A)) : Type 0 where
+    place : ℕ
+    moment : Moment A
+    at : At ms place moment
+    left : Left address a moment
+    out : Absent (drop (suc place) ms)
+
+  -- an address that is not listed after the moments left at one of them and did not come back, or was listed before none
+  last-left : (s s′ : Node A) (ms : List (Moment A)) → Leads s ms s′ → lists address a s′ ≡ false → LeftLast ms ⊎ ((lists address a s ≡ false) × Absent ms)
+  last-left s s′ [] e q = inr (ap (lists address a) e ∙ q, λ i m p. absurd p)
+  last-left s s′ (m ∷ ms) (e, l) q = from (last-left (m .after) s′ ms l q)
+    where
+      from : LeftLast ms ⊎ ((lists address a (m .after) ≡ false) × Absent ms) → LeftLast (m ∷ ms) ⊎ ((lists address a s ≡ false) × Absent (m ∷ ms))
+      from (inl r) = inl (record { place = suc (r .place); moment = r .moment; at = r .at; left = r .left; out = r .out })
+      from (inr (g, away)) =
+          (elim (lists address a s) as (λ u. lists address a s ≡ u → LeftLast (m ∷ ms) ⊎ ((u ≡ false) × Absent (m ∷ ms))) [
+            | true ↦ λ v. inl (record { place = zero; moment = m; at = refl; left = record { was = ap (lists address a) (sym e) ∙ v; gone = g }; out = away })
+            | false ↦ λ v. inr (refl, absent-more m ms g away)
+          ]) refl
+
+  module _ (lawful : Lawful address) (own : A) (t : Tally) (c : Call A) (w : World A) (known : Known address a own t c w) where
+    -- which record or time-out took it out, at whichever of the call's moments it left
+    pub caused : (i : ℕ) (m : Moment A) → At (moments address c w) i m → Left address a m → Cause c w i (numbered address a (m .before))
+    caused i m p l =
+        let f = fine-at address a own (moments address c w) t i m p (known .fine) in
+        let d : At (deedsOf address c w) i (m .deed) = rw (known .tells .asks) at (deed-at address a (moments address c w) i m p) in
+        let next = outcome address c w .wait .state in
+        cause-at lawful c w next i (m .before) (m .deed) (at-asked address a (outcome address c w .outcome .reply) (asked address c w next) i (m .deed) d)
+        (goes-out address a _ _ _ (l .was) (l .gone) (f .leaves))
+
+    -- an older message: its record i is a Deceased gossip for the address with a number below the one held at that moment. The address stays
+    pub spared : (action : Action A) (gs : List (Gossip A)) (ds : List ℕ) (lent : Room) (i : ℕ) (m : Moment A) (from : A) (n : ℕ) → c ≡ Receive action gs ds lent → At (moments address c w) i m
+        → At gs i (record { event = Deceased from a n }) → n < numbered address a (m .before) → lists address a (m .before) ≡ true → lists address a (m .after) ≡ true
+    spared action gs ds lent i m from n q p r low l =
+        (elim (lists address a (m .after)) as (λ u. lists address a (m .after) ≡ u → u ≡ true) [
+          | true ↦ λ e. refl
+          | false ↦ λ e. contradicts (caused i m p (record { was = l; gone = e }))
+        ]) refl
+      where
+        number : Event A → ℕ
+        number Nothing = 0
+        number (Joined f b k) = k
+        number (Recovered f b k) = k
+        number (Suspected f b k) = k
+        number (Deceased f b k) = k
+
+        recordsOf : Call A → List (Gossip A)
+        recordsOf (Add b k xs) = []
+        recordsOf (Receive ac xs ys room) = xs
+        recordsOf (Step now xs room) = []
+        recordsOf (calls.Timer now room) = []
+
+        kind : Call A → ℕ
+        kind (Add b k xs) = 0
+        kind (Receive ac xs ys room) = 1
+        kind (Step now xs room) = 2
+        kind (calls.Timer now room) = 3
+
+        contradicts : Cause c w i (numbered address a (m .before)) → false ≡ true
+        contradicts (notice ac xs ys room f k e x le) =
+            let same : xs ≡ gs = sym (ap recordsOf e) ∙ ap recordsOf q in
+            let eq : k ≡ n = ap (λ (g : Gossip A). number (g .event)) (at-is gs i _ _ (rw same at x) r) in
+            absurd (omega arith)
+        contradicts (timeOut now room j tm e o x y) = let z : _≡_ {A = ℕ} 3 1 = sym (ap kind e) ∙ ap kind q in absurd (omega arith)
+
+  module _ (lawful : Lawful address) (own : A) where
+    -- an address that is not listed after the calls: some call of them took it out for good, or it was listed at none of their moments
+    pub taken-last : (h : List (Call A)) (w : World A) (t : Tally) → Stands address lawful a own t w → lists address a (loaded (run address h w .node)) ≡ false
+        → TakenOut h w ⊎ ((lists address a (loaded (w .node)) ≡ false) × Absent (trace address h w))
+    taken-last [] w t k q = inr (q, λ i m p. absurd p)
+    taken-last (c ∷ h) w t k q = from (taken-last h w′ (tally address a (moments address c w) t) (call-stands address lawful a own t c w k .stands) q)
+      where
+        w′ : World A
+        w′ = worldOf address (outcome address c w)
+
+        before : TakenOut h (worldOf address (outcome address c w)) → TakenOut (c ∷ h) w
+        before r =
+            record {
+              earlier = c ∷ r .earlier;
+              call = r .call;
+              later = r .later;
+              splits = ap (λ (l : List (Call A)). c ∷ l) (r .splits);
+              place = r .place;
+              moment = r .moment;
+              at = r .at;
+              left = r .left;
+              cause = r .cause;
+              out = r .out;
+            }
+
+        here : Absent (trace address h (worldOf address (outcome address c w))) → LeftLast (moments address c w) ⊎ ((lists address a (loaded (w .node)) ≡ false) × Absent (moments address c w))
+            → TakenOut (c ∷ h) w ⊎ ((lists address a (loaded (w .node)) ≡ false) × Absent (trace address (c ∷ h) w))
+        here away (inl r) =
+            inl (record { earlier = []; call = c; later = h; splits = refl; place = r .place; moment = r .moment; at = r .at; left = r .left; cause = caused lawful own t c w (known-of address a lawful own t c w k) (r .place) (r .moment) (r .at) (r .left); out = absent-append (drop (suc (r .place)) (moments address c w)) (trace address h (worldOf address (outcome address c w))) (r .out) away })
+        here away (inr (g, p)) = inr (g, absent-append (moments address c w) (trace address h (worldOf address (outcome address c w))) p away)
+
+        from : TakenOut h (worldOf address (outcome address c w)) ⊎ ((lists address a (loaded (worldOf address (outcome address c w) .node)) ≡ false) × Absent (trace address h (worldOf address (outcome address c w))))
+            → TakenOut (c ∷ h) w ⊎ ((lists address a (loaded (w .node)) ≡ false) × Absent (trace address (c ∷ h) w))
+        from (inl r) = inl (before r)
+        from (inr (g, away)) = here away (last-left (loaded (w .node)) _ (moments address c w) (known-of address a lawful own t c w k .tells .leads) g)
+
+    -- an address that was listed and is no longer: some call of the calls between took it out
+    pub taken-out : (h : List (Call A)) (w : World A) (t : Tally) → Stands address lawful a own t w → lists address a (loaded (w .node)) ≡ true → lists address a (loaded (run address h w .node)) ≡ false → TakenOut h w
+    taken-out h w t k p q = from (taken-last h w t k q)
+      where
+        from : TakenOut h w ⊎ ((lists address a (loaded (w .node)) ≡ false) × Absent (trace address h w)) → TakenOut h w
+        from (inl r) = r
+        from (inr (g, away)) = never (sym g ∙ p)
 
 module _ {A : Type 0} (address : Address A) (lawful : Lawful address) (settings : Settings) (own : A) (n tick : ℕ) (node : Stored A)
     (accepted : create address settings own n ≡ created node) (h : List (Call A)) (a : A) where
-  abbrev history : List (Moment A)
-  history = trace address h (record { node = node; wait = record { state = SendingPing; since = tick } })
+  abbrev last : World A
+  last = demand3.last address lawful settings own n tick node accepted h a
 
-  -- which message or time-out took it out: every moment at which the address left has its cause
-  pub which-took-it-out : Everywhere address a (λ m. Left address a m → Cause address a m) history
-  which-took-it-out = causes address a own history _ (fine address lawful settings own n tick node accepted h a)
+  -- which message or time-out took it out: an address that is listed after this history and no longer after some more calls
+  pub which-took-it-out : (more : List (Call A)) → lists address a (loaded (last .node)) ≡ true → lists address a (loaded (run address more last .node)) ≡ false → TakenOut address a more last
+  which-took-it-out more p q = taken-out address a lawful own more last _ (demand3.stood address lawful settings own n tick node accepted h a) p q
 
-  -- can an older message do it? No: with a number below the held one the address stays
-  pub no-older-message : Everywhere address a
-      (λ m. (from : A) (k : ℕ) → m .deed ≡ Told (Deceased from a k) → leb (numbered address a (m .before)) k ≡ false → lists address a (m .before) ≡ true → lists address a (m .after) ≡ true) history
-  no-older-message = stays-on address a own history _ lawful (fine address lawful settings own n tick node accepted h a)
+  -- whoever is not listed now was taken out for good at a place that is named, or was listed at no moment since
+  pub absent-now : (more : List (Call A)) → lists address a (loaded (run address more last .node)) ≡ false
+      → TakenOut address a more last ⊎ ((lists address a (loaded (last .node)) ≡ false) × Absent address a (trace address more last))
+  absent-now more q = taken-last address a lawful own more last _ (demand3.stood address lawful settings own n tick node accepted h a) q

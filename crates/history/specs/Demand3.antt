@@ -1,29 +1,26 @@
--- DEMAND 3. Of every history from a fresh node (any accepted settings, own address and number, a fresh wait record at any tick), and of
--- every address, of any type of address.
+-- DEMAND 3. Of every history from a fresh node (any accepted settings, own address and number, a fresh wait record at any tick) and of every
+-- address, of any type of address: who is listed, and in which order. The replay starts at creation's inputs.
 -- Assumes nothing.
-use mathlib.Core.Path.{_≡_, refl, ap, sym, _∙_}
-use mathlib.Core.Bool.{Bool, true, false, not}
-use mathlib.Core.List.{List, [], _∷_}
-use Prim.Native.Nat.{ℕ, _+_}
+use mathlib.Core.Path.{_≡_, ap, _∙_}
+use mathlib.Core.Bool.{true, false}
+use mathlib.Core.List.{List}
+use Prim.Native.Nat.{ℕ, _+_, _≤_}
 use native.Mathlib.Omega.{arith}
 use borrow.Author.Tests.{not-false}
-use Rattle.model.specs.declared.Refusal.{Refusal}
-use Rattle.model.specs.declared.Refusal.the-variants.{Setting, AddressRange}
 use Rattle.model.specs.declared.Settings.{Settings}
-use Rattle.model.specs.Rows.{one, pick, occurs}
-use Rattle.model.specs.Words.{Address, Lawful, SendingPing}
+use Rattle.model.specs.Rows.{one, occurs}
+use Rattle.model.specs.Words.{Address, Lawful}
 use Rattle.model.specs.Members.{addrs}
-use Rattle.model.specs.Node.{Node, Stored, loaded, stored, fresh, lists}
+use Rattle.model.specs.Node.{Node, Stored, loaded, stored, fresh, lists, numbered}
 use Rattle.model.specs.Sound.{inRange, sound}
 use Rattle.model.specs.Counts.{has-is}
 use Rattle.model.specs.Good.{Good, good-sound, loaded-stored}
 use Rattle.model.specs.Calls.{Created, created, notCreated, create, createTests}
-use Rattle.history.specs.Moments.{Moment}
 use Rattle.history.specs.Ledger.{Tally, tally, begun}
 use Rattle.history.specs.Did.{Kept}
-use Rattle.history.specs.Walk.{Along}
-use Rattle.history.specs.Worlds.{Stands, stands, Went, walk, begins, Passed, first-cases}
+use Rattle.history.specs.Worlds.{Stands, stands, Went, walk, begins, first-cases}
 use Rattle.history.specs.Histories.{World, Call, run, trace, start}
+use Rattle.history.specs.Next.{Known, known-of}
 
 module _ {A : Type 0} (address : Address A) where
   -- creation gave a node: it is the fresh one, and its tests were passed
@@ -42,20 +39,20 @@ module _ {A : Type 0} (address : Address A) where
 
 module _ {A : Type 0} (address : Address A) (lawful : Lawful address) (settings : Settings) (own : A) (n tick : ℕ) (node : Stored A)
     (accepted : create address settings own n ≡ created node) (h : List (Call A)) (a : A) where
-  -- the fresh world, the world after the history, its moments and the ledger
-  abbrev first : World A
-  first = record { node = node; wait = record { state = SendingPing; since = tick } }
+  -- the world after the history, and the ledger: of creation's inputs and the calls alone
+  abbrev pub last : World A
+  last = run address h (start address settings own n tick)
 
-  abbrev last : World A
-  last = run address h first
+  abbrev pub ledger : Tally
+  ledger = tally address a (trace address h (start address settings own n tick)) (begun address a own)
 
-  abbrev ledger : Tally
-  ledger = tally address a (trace address h first) (begun address a own)
-
-  went : Went address lawful a own (begun address a own) (trace address h first) last
+  went : Went address lawful a own (begun address a own) (trace address h (start address settings own n tick)) last
   went =
       let c = created-is address settings own n node accepted in
-      walk address lawful a own h first (begun address a own) (rw (c .0) (begins address lawful a settings own n tick (c .1) (c .2)))
+      walk address lawful a own h (start address settings own n tick) (begun address a own) (begins address lawful a settings own n tick (c .1) (c .2))
+
+  pub stood : Stands address lawful a own ledger last
+  stood = went .stands
 
   -- what a world that stands says of its node
   reads : {P : Node A → Type 0} {t : Tally} {w : World A} → ((s : Node A) → Good address s → Kept address a own s t → P s) → Stands address lawful a own t w → P (loaded (w .node))
@@ -63,23 +60,28 @@ module _ {A : Type 0} (address : Address A) (lawful : Lawful address) (settings 
 
   -- "an address's entries less departures is 1 where it is listed and 0 where not"
   pub counted : ledger .entries ≡ ledger .departures + one (lists address a (loaded (last .node)))
-  counted = reads {P = λ s. ledger .entries ≡ ledger .departures + one (lists address a s)} (λ s g k. k .count) (went .stands)
+  counted = reads {P = λ s. ledger .entries ≡ ledger .departures + one (lists address a s)} (λ s g k. k .count) stood
 
   -- "the probing order holds each listed address once and nothing more"
   pub ordered : occurs (address .same) a (loaded (last .node) .members .order) ≡ one (lists address a (loaded (last .node)))
   ordered =
       reads {P = λ s. occurs (address .same) a (s .members .order) ≡ one (lists address a s)}
       (λ s g k. k .whole .counts a ∙ has-is (address .same) a (addrs (s .members .table)) (k .whole .once a))
-      (went .stands)
+      stood
 
-  -- "while listed, its number never falls save at the ping-request step", which writes back the number taken with the ping; "a death notice
-  -- that removes a peer carries a number no lower than any reported for it": at every moment, with the ledger before it (see `Fine`)
-  pub fine : Along address a own (trace address h first) (begun address a own)
-  fine = went .fine
+  -- no number reported for a listed peer since its last entry, or the last ping-request step while listed, is above the held one
+  pub reported-held : lists address a (loaded (last .node)) ≡ true → address .same own a ≡ false → ledger .top ≤ numbered address a (loaded (last .node))
+  reported-held = reads {P = λ s. lists address a s ≡ true → address .same own a ≡ false → ledger .top ≤ numbered address a s} (λ s g k. k .low) stood
 
   -- every node of a history is sound, so refusal 2 never meets one
   pub stays-sound : sound address (last .node) ≡ true
-  stays-sound = passes (went .stands)
+  stays-sound = passes stood
     where
       passes : {t : Tally} {w : World A} → Stands address lawful a own t w → sound address (w .node) ≡ true
       passes (stands s w g k tk) = good-sound address lawful s g
+
+  -- Whichever call comes next: its moments lead from the node before it to the node after it, say what it reports, and their deeds are its own. At each
+  -- of them "while listed, its number never falls save at the ping-request step", which writes back the number taken with the ping; "a death notice
+  -- that removes a peer carries a number no lower than any reported for it" (see `Fine`, with the ledger before it)
+  pub known : (c : Call A) → Known address a own (ledger) c last
+  known c = known-of address a lawful own _ c last stood

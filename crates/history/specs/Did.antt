@@ -2,14 +2,14 @@
 -- Assumes nothing.
 use mathlib.Core.Path.{_≡_, refl, ap, sym, _∙_}
 use mathlib.Core.Bool.{Bool, true, false, not, _&&_}
-use mathlib.Core.List.{List, [], _∷_, _++_}
-use Prim.Native.Nat.{ℕ, zero, suc, _+_, _≤_, _<_, max}
+use mathlib.Core.List.{[], _∷_, _++_}
+use Prim.Native.Nat.{ℕ, _+_, _≤_, _<_, max}
 use native.Mathlib.Omega.{arith}
 use lib.ListN.{length}
-use lib.Dec.{ltb, leb}
+use lib.Dec.{leb}
 use borrow.Author.Tests.{leb-true, lt-ltb, le-ltb}
 use Rattle.model.specs.declared.State.the-variants.{Alive}
-use Rattle.model.specs.Rows.{one, pick, has, occurs}
+use Rattle.model.specs.Rows.{one, pick, has}
 use Rattle.model.specs.Bools.{and-split}
 use Rattle.model.specs.Words.{Address, Lawful, Member, Deceased}
 use Rattle.model.specs.Members.{Members, addrs, listed, held, added, remove, update, strike, put}
@@ -17,7 +17,7 @@ use Rattle.model.specs.Node.{Node, Out, lists, numbered}
 use Rattle.model.specs.Whole.{Whole, added-whole, remove-whole, update-whole, strike-addrs, addrs-append}
 use Rattle.model.specs.Held.{has-append, held-old, held-new, has-put, has-erase, held-put, held-put-other, held-strike}
 use Rattle.history.specs.Moments.{Deed, Told, Moment, momentOf}
-use Rattle.history.specs.Ledger.{Tally, inside, comes, goes, asks, askedAt, pings, reported, step}
+use Rattle.history.specs.Ledger.{Tally, inside, comes, goes, asks, askedAt, reported, step}
 
 -- the ledger keeps pace: l and l′ say whether the address is listed before and after, g whether it goes and c whether it comes
 counts : (l l′ g c : Bool) (e d : ℕ) → e ≡ d + one l → (l ≡ true → l′ ≡ not g) → (l ≡ false → l′ ≡ c)

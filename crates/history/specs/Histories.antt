@@ -1,19 +1,17 @@
 -- A history: any list of calls, each with its draws, its ticks and how many places the host lends, from a fresh node and a fresh wait record.
 -- Assumes nothing.
-use mathlib.Core.Bool.{Bool, true, false}
 use mathlib.Core.List.{List, [], _∷_, _++_}
 use mathlib.Core.Option.{Option, none, some}
 use Prim.Native.Nat.{ℕ}
 use Rattle.model.specs.declared.Reply.{Reply}
 use Rattle.model.specs.declared.Reply.the-variants.{Done, Already, NotDue, Refused}
 use Rattle.model.specs.declared.Settings.{Settings}
-use Rattle.model.specs.Rows.{pick}
 use Rattle.model.specs.Bounds.{Room}
 use Rattle.model.specs.Words.{Address, Gossip, Action, Wait, SendingPing}
 use Rattle.model.specs.Node.{Node, Stored, loaded, stored, fresh}
 use Rattle.model.specs.Detector.{firstOver}
 use Rattle.model.specs.Calls.{StepOutcome, addPeer, message, detect, endTimer}
-use Rattle.history.specs.Moments.{Moment, traceAdd, traceMessage, traceStep, traceTimer}
+use Rattle.history.specs.Moments.{Moment, Added, silent, traceAdd, traceMessage, traceStep, traceTimer}
 
 -- what the calls of a history work on
 pub record World (A : Type 0) : Type 0 where
@@ -26,12 +24,6 @@ pub data Call (A : Type 0) : Type 0 where
   Receive : Action A → List (Gossip A) → List ℕ → Room → Call A
   Step : ℕ → List ℕ → Room → Call A
   Timer : ℕ → Room → Call A
-
-abbrev pub isKept : Reply → Bool
-isKept (Done used) = true
-isKept Already = false
-isKept NotDue = false
-isKept (Refused r) = false
 
 module _ {A : Type 0} (address : Address A) where
   -- what a call gives, with the wait record after it
@@ -59,9 +51,22 @@ module _ {A : Type 0} (address : Address A) where
   rulesOf (Step now ds lent) s w = traceStep address (w .state) now s ds
   rulesOf (Timer now lent) s w = endingAt (firstOver address (s .settings .«suspect_timeout») now (s .timers)) s
 
-  -- "Refused calls drop out", and so do those that had nothing to do
+  -- "an add .. while not listed": whether the address is listed is for the ledger to say, so an add that answered "already" is read too
+  abbrev pub idleOf : Call A → Node A → List (Moment A)
+  idleOf (Add a n ds) s = silent (Added a n) s s
+  idleOf (Receive action gs ds lent) s = []
+  idleOf (Step now ds lent) s = []
+  idleOf (Timer now lent) s = []
+
+  -- "Refused calls drop out"; where nothing was due, nothing ran
+  abbrev pub momentsBy : Reply → List (Moment A) → List (Moment A) → List (Moment A)
+  momentsBy (Done used) ran idle = ran
+  momentsBy Already ran idle = idle
+  momentsBy NotDue ran idle = []
+  momentsBy (Refused r) ran idle = []
+
   abbrev pub moments : Call A → World A → List (Moment A)
-  moments c w = pick (isKept (outcome c w .outcome .reply)) (rulesOf c (loaded (w .node)) (w .wait)) []
+  moments c w = momentsBy (outcome c w .outcome .reply) (rulesOf c (loaded (w .node)) (w .wait)) (idleOf c (loaded (w .node)))
 
   abbrev pub trace : List (Call A) → World A → List (Moment A)
   trace [] w = []

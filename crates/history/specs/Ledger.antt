@@ -1,8 +1,8 @@
 -- 01's ledger of one address: a fold over the moments. It reads of a moment what was asked and, of the replay, the held number; it never
 -- reads the list.
 -- Assumes nothing.
-use mathlib.Core.Bool.{Bool, true, false, not, _&&_}
-use mathlib.Core.List.{List, [], _∷_, _++_}
+use mathlib.Core.Bool.{Bool, false, not, _&&_}
+use mathlib.Core.List.{List, [], _∷_}
 use Prim.Native.Nat.{ℕ, _+_, max}
 use lib.Dec.{ltb, leb}
 use Rattle.model.specs.Rows.{one, pick}

@@ -1,15 +1,14 @@
 -- A kept call as its moments: each rule that ran, with the replay's node before and after it and what it reported. An address that leaves
 -- and comes back within one message does so at two moments.
 -- Assumes nothing.
-use mathlib.Core.Bool.{Bool, true, false}
 use mathlib.Core.List.{List, [], _∷_, _++_}
 use mathlib.Core.Option.{Option, none, some}
 use Prim.Native.Nat.{ℕ}
 use lib.ListN.{getD}
 use Rattle.model.specs.Answers.{Answer, done, refused, andThen}
-use Rattle.model.specs.Words.{Address, Event, Gossip, Action, Ping, PingReq, Ack, Timer, Wait, WaitState, SendingPing, WaitingForPingAck, SendingPingReq, WaitingForPingReqAck, Declaring, noTimer}
+use Rattle.model.specs.Words.{Address, Event, Gossip, Action, Ping, PingReq, Ack, Timer, WaitState, SendingPing, WaitingForPingAck, SendingPingReq, WaitingForPingReqAck, Declaring, noTimer}
 use Rattle.model.specs.Members as list
-use Rattle.model.specs.Node.{Node, Out, spread, withMembers, withTimers}
+use Rattle.model.specs.Node.{Node, Out, spread, withMembers}
 use Rattle.model.specs.Handler.{item, gossip, admit, acked}
 use Rattle.model.specs.Detector.{suspect, sendPing, sendPingReq, declare, Stepped, endAt}
 

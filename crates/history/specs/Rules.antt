@@ -1,10 +1,9 @@
 -- What each rule of the handler and the detector does to one address.
 -- Assumes nothing.
 use mathlib.Core.Path.{_≡_, refl, ap, sym, _∙_}
-use mathlib.Core.Bool.{Bool, true, false, not, _&&_}
-use mathlib.Core.List.{List, [], _∷_, _++_}
-use mathlib.Core.Option.{Option, none, some}
-use Prim.Native.Nat.{ℕ, zero, suc, _+_, _≤_, _<_, max}
+use mathlib.Core.Bool.{Bool, true, false, _&&_}
+use mathlib.Core.List.{List, [], _∷_}
+use Prim.Native.Nat.{ℕ, _≤_, _<_, max}
 use native.Mathlib.Omega.{arith}
 use lib.ListN.{length, getD}
 use lib.Dec.{ltb, leb}
@@ -12,18 +11,18 @@ use borrow.Author.Tests.{leb-false, leb-true, ltb-true}
 use Rattle.model.specs.declared.State.{State}
 use Rattle.model.specs.declared.State.the-variants as state
 use Rattle.model.specs.Rows.{pick, removeAt}
-use Rattle.model.specs.Answers.{Answer, done, refused, when, andThen}
+use Rattle.model.specs.Answers.{Answer}
 use Rattle.model.specs.Bools.{and-split}
 use Rattle.model.specs.After.{After, halts, gives, after-map, after-when, after-draw, after-then}
-use Rattle.model.specs.Words.{Address, Lawful, isAlive, Member, Event, Nothing, Joined, Recovered, Suspected, Deceased, Gossip, Entry, Timer, noTimer}
+use Rattle.model.specs.Words.{Address, Lawful, Event, Nothing, Joined, Recovered, Suspected, Deceased, Gossip, Entry, Timer, noTimer}
 use Rattle.model.specs.Members.{Members, added, add, remove, update}
 use Rattle.model.specs.Node.{Node, Out, withMembers, withHeaps, withTimers, quiet, pushed, emitAlive, emitDeceased, lists, numbered, stateOf, change, leave}
 use Rattle.model.specs.Handler.{says, enter, joinedAt, joined, recovered, believed, suspectedOther, suspected, deceased, item, admit, acked}
 use Rattle.model.specs.Detector.{suspect, ended, endAt}
 use Rattle.model.specs.Keeps.{after-plusOne, after-death}
 use Rattle.model.specs.Whole.{Whole}
-use Rattle.history.specs.Moments.{Deed, Told, Sender, Added, Pinged, Asked, Ended, Other, endedDeed}
-use Rattle.history.specs.Ledger.{comes, goes, asks, pings, reported}
+use Rattle.history.specs.Moments.{Deed, Told, Sender, Added, Asked, Other, endedDeed}
+use Rattle.history.specs.Ledger.{comes, goes, asks, reported}
 use Rattle.history.specs.Did.{Did, stay, put-did, came-did, gone-did}
 
 pub never : {B : Type 0} → _≡_ {A = Bool} false true → B
@@ -250,3 +249,7 @@ module _ {A : Type 0} (address : Address A) (lawful : Lawful address) (a : A) wh
   add-did b n s ds w e =
       after-map (λ m p. came-did address a lawful b n (p .0) s (Added b n) _ w (p .1) refl e (p .2) refl refl refl (λ _. omega arith) (λ _. refl))
       (add-gives b n (s .members) ds)
+
+  -- an add of an address that is listed
+  pub already-did : (b : A) (n : ℕ) (s : Node A) → Whole (address .same) (s .members) → lists address b s ≡ true → Did address a s (Added b n) (record { node = s; said = [] })
+  already-did b n s w e = stay address a lawful s (Added b n) (record { node = s; said = [] }) w refl refl (λ _. refl) (apart b s e) refl (λ _ _. omega arith)

@@ -1,25 +1,22 @@
 -- The ledger along the moments of a call: whatever each rule keeps, the call keeps.
 -- Assumes nothing.
-use mathlib.Core.Path.{_≡_, refl, ap, sym, _∙_}
+use mathlib.Core.Path.{_≡_, refl, ap, _∙_}
 use mathlib.Core.Bool.{Bool, true, false}
 use mathlib.Core.List.{List, [], _∷_, _++_}
 use mathlib.Core.Option.{Option, none, some}
-use Prim.Native.Nat.{ℕ, zero, suc, _+_, _≤_, _<_}
-use lib.ListN.{getD}
+use Prim.Native.Nat.{ℕ}
 use Rattle.model.specs.Rows.{pick}
 use Rattle.model.specs.Answers.{Answer, done, refused, andThen}
-use Rattle.model.specs.After.{After, halts, gives, after-when, after-then, after-map}
+use Rattle.model.specs.After.{After, halts, gives, after-then, after-map}
 use Rattle.model.specs.declared.State.the-variants as state
-use Rattle.model.specs.Words.{Address, Lawful, Gossip, Message, Action, Ping, PingReq, Ack, WaitState, SendingPing, WaitingForPingAck, SendingPingReq, WaitingForPingReqAck, Declaring}
-use Rattle.model.specs.Members.{Members, held, update}
-use Rattle.model.specs.Node.{Node, Out, Effect, withMembers, andMore, quiet, lists, numbered, change, spread}
+use Rattle.model.specs.Words.{Address, Lawful, Gossip, Action, Ping, PingReq, Ack, WaitState, SendingPing, WaitingForPingAck, SendingPingReq, WaitingForPingReqAck, Declaring}
+use Rattle.model.specs.Node.{Node, Out, andMore, quiet, numbered, spread}
 use Rattle.model.specs.Handler.{item, gossip, admit, acked, answerTo, forwarded, handle}
-use Rattle.model.specs.Detector.{Stepped, pinged, sendPing, heard, waited, askEach, suspect, sendPingReq, declare, step as stepRule}
-use Rattle.model.specs.Picking.{Turned, pick-turned}
-use Rattle.history.specs.Moments.{Deed, Told, Sender, Pinged, Asked, Other, Moment, momentOf, moment, silent, traceThen, steppedTo, traceGossip, traceSpread, traceAdmit, traceAck, traceMessage, pingedDeed, tracePing, traceAsk, traceStep}
+use Rattle.model.specs.Detector.{Stepped, suspect}
+use Rattle.history.specs.Moments.{Deed, Told, Sender, Other, Moment, momentOf, moment, traceThen, traceGossip, traceSpread, traceAck, traceMessage}
 use Rattle.history.specs.Ledger.{Tally, pings, asks, askedAt, step, tally}
 use Rattle.history.specs.Did.{Did, Kept, Fine, next}
-use Rattle.history.specs.Rules.{Runs, never, item-did, admit-did, acked-did, held-did, other-did, suspect-did}
+use Rattle.history.specs.Rules.{never, item-did, admit-did, acked-did, other-did}
 
 module _ {A : Type 0} (address : Address A) (a : A) where
   -- every moment is fine, each with the ledger before it

@@ -3,7 +3,7 @@
 use mathlib.Core.Path.{_≡_, refl, ap, sym, _∙_}
 use mathlib.Core.Bool.{Bool, true, false}
 use mathlib.Core.List.{List, [], _∷_, _++_}
-use mathlib.Core.Option.{Option, none, some}
+use mathlib.Core.Option.{none, some}
 use Prim.Native.Nat.{ℕ}
 use Rattle.model.specs.declared.State.the-variants as state
 use Rattle.model.specs.Rows.{pick}
@@ -13,13 +13,13 @@ use Rattle.model.specs.After.{After, halts, gives, after-when, after-then, afte
 use Rattle.model.specs.Words.{Address, Lawful, Gossip, Message, WaitState, SendingPing, WaitingForPingAck, SendingPingReq, WaitingForPingReqAck, Declaring}
 use Rattle.model.specs.Members.{Members, Picked, held}
 use Rattle.model.specs.Node.{Node, Out, withMembers, numbered, change, spread}
-use Rattle.model.specs.Detector.{Stepped, moves, pinged, sendPing, heard, waited, askEach, enters, suspect, asked, pickGroup, sendPingReq, declare, step as stepRule}
+use Rattle.model.specs.Detector.{Stepped, moves, pinged, sendPing, heard, waited, askEach, asked, pickGroup, sendPingReq, declare, step as stepRule}
 use Rattle.model.specs.Picking.{Turned, pick-turned}
-use Rattle.history.specs.Moments.{Deed, Pinged, Asked, Other, Moment, silent, moment, traceThen, steppedTo, pingedDeed, tracePing, traceAsk, traceStep}
-use Rattle.history.specs.Ledger.{Tally, pings, asks, tally}
+use Rattle.history.specs.Moments.{Pinged, Asked, Other, Moment, moment, traceThen, steppedTo, pingedDeed, tracePing, traceAsk, traceStep}
+use Rattle.history.specs.Ledger.{Tally, pings, asks}
 use Rattle.history.specs.Did.{Did, Kept, next}
 use Rattle.history.specs.Rules.{never, held-did, other-did, suspect-did}
-use Rattle.history.specs.Walk.{Walked, Walks, further, one-step, one-moment, then-moments, waitsFor, Took, StepWalked}
+use Rattle.history.specs.Walk.{Walked, Walks, further, one-step, one-moment, waitsFor, Took, StepWalked}
 
 module _ {A : Type 0} (address : Address A) (a : A) (lawful : Lawful address) where
   -- what a ping does: to the list, and to the wait record

@@ -1,39 +1,35 @@
 -- The ledger along every call and every history: the rows hold a good node, and every moment is fine.
 -- Assumes nothing.
-use mathlib.Core.Path.{_≡_, refl, ap, sym, _∙_}
-use mathlib.Core.Bool.{Bool, true, false, not, _&&_}
-use mathlib.Core.List.{List, [], _∷_, _++_}
+use mathlib.Core.Path.{_≡_, refl, sym, _∙_}
+use mathlib.Core.Bool.{Bool, true, false}
+use mathlib.Core.List.{List, [], _∷_}
 use mathlib.Core.Option.{Option, none, some}
 use Prim.Native.Nat.{ℕ, _+_, _<_}
 use lib.ListN.{length, getD}
 use native.Mathlib.Omega.{arith}
 use borrow.Author.Tests.{not-false}
 use Rattle.model.specs.declared.Refusal.{Refusal}
-use Rattle.model.specs.declared.Refusal.the-variants.{Setting, AddressRange}
-use Rattle.model.specs.declared.Reply.{Reply}
 use Rattle.model.specs.declared.Settings.{Settings}
-use Rattle.model.specs.Rows.{one, pick, every, occurs}
+use Rattle.model.specs.Rows.{one, pick, every}
 use Rattle.model.specs.Bools.{and-split, none-some}
-use Rattle.model.specs.Answers.{Answer, done, refused, andThen}
-use Rattle.model.specs.After.{After, halts, gives, after-then, after-map, after-both}
-use Rattle.model.specs.Words.{Address, Lawful, Gossip, Action, Wait, SendingPing, noTimer}
-use Rattle.model.specs.Members.{Members, add, addrs}
-use Rattle.model.specs.Node.{Node, Out, Effect, Stored, loaded, stored, fresh, withMembers, lists, numbered}
-use Rattle.model.specs.Handler.{handle}
-use Rattle.model.specs.Detector.{Stepped, step as stepRule, due, firstOver, endAt}
-use Rattle.model.specs.Sound.{inRange, sound, validGossip}
-use Rattle.model.specs.Counts.{has-is, one-le}
-use Rattle.model.specs.Good.{Good, good-sound, loaded-stored}
+use Rattle.model.specs.Answers.{Answer, done, andThen}
+use Rattle.model.specs.After.{After, halts, gives, after-then, after-both}
+use Rattle.model.specs.Words.{Address, Lawful, Wait, SendingPing, noTimer}
+use Rattle.model.specs.Members.{Members}
+use Rattle.model.specs.Node.{Node, Effect, Stored, loaded, stored, fresh, withMembers, lists}
+use Rattle.model.specs.Detector.{Stepped, step as stepRule, due, firstOver}
+use Rattle.model.specs.Sound.{inRange, validGossip}
+use Rattle.model.specs.Good.{Good, loaded-stored}
 use Rattle.model.specs.Keeps.{Keeps, add-keeps}
 use Rattle.model.specs.KeepsCalls.{handle-keeps, step-keeps, end-keeps, first-over-in, fresh-good}
-use Rattle.model.specs.Calls.{Outcome, StepOutcome, Created, created, notCreated, create, firstOf, refuses, orAlready, whenDue, kept, keptStep, joins, addTests, messageTests, stepTests, timerTests, addPeer, message, detect, reports, endsAt, endTimer, validAction, validState}
-use Rattle.history.specs.Moments.{Moment, Added, moment, momentOf, traceAdd, traceMessage, traceStep, traceTimer, endedDeed}
+use Rattle.model.specs.Calls.{Outcome, StepOutcome, firstOf, refuses, orAlready, whenDue, kept, keptStep, joins, addTests, messageTests, stepTests, timerTests, addPeer, message, detect, endsAt, endTimer, validAction, validState}
+use Rattle.history.specs.Moments.{Moment, Added, moment, silent, traceAdd, traceMessage, traceStep, traceTimer, endedDeed}
 use Rattle.history.specs.Ledger.{Tally, tally, begun}
 use Rattle.history.specs.Did.{Did, Kept}
-use Rattle.history.specs.Rules.{never, add-did, timer-did}
+use Rattle.history.specs.Rules.{never, add-did, already-did, timer-did}
 use Rattle.history.specs.Walk.{Along, Walked, tally-append, along-append, one-step, one-moment, walk-message, Took, StepWalked}
 use Rattle.history.specs.WalkSteps.{walk-step}
-use Rattle.history.specs.Histories.{World, Call, Add, Receive, Step, Timer, isKept, outcome, worldOf, run, endingAt, rulesOf, moments, trace, start}
+use Rattle.history.specs.Histories.{World, Call, Add, Receive, Step, Timer, outcome, worldOf, run, endingAt, momentsBy, moments, trace, start}
 
 -- every test was passed
 abbrev pub Passed : List (Bool × Refusal) → Type 0
@@ -80,39 +76,48 @@ module _ {A : Type 0} (address : Address A) (lawful : Lawful address) (a : A) wh
     stayed = record { stands = stands s w g k tk; fine = tt }
 
     -- an effect was kept, or nothing was
-    effect-went : (ds : List ℕ) (ms : List (Moment A)) {x : Answer (Effect A)} → After (λ e. Keeps address seen (e .node) × Walked address a own t ms (e .node)) x
-        → Went own t (pick (isKept (kept address (stored address s) ds x .reply)) ms []) (record { node = kept address (stored address s) ds x .node; wait = w })
-    effect-went ds ms halts = stayed
-    effect-went ds ms (gives {b = e} q) =
+    effect-went : (ds : List ℕ) (ms idle : List (Moment A)) {x : Answer (Effect A)} → After (λ e. Keeps address seen (e .node) × Walked address a own t ms (e .node)) x
+        → Went own t (momentsBy address (kept address (stored address s) ds x .reply) ms idle) (record { node = kept address (stored address s) ds x .node; wait = w })
+    effect-went ds ms idle halts = stayed
+    effect-went ds ms idle (gives {b = e} q) =
         record {
           stands = stands (e .node) w (q .0 .good) (q .1 .kept) (λ b n p h. tk b n p h ∙ sym (q .1 .taken));
           fine = q .1 .fine;
         }
 
-    step-went : (ds : List ℕ) (ms : List (Moment A)) {x : Answer (Stepped A)} → After (λ e. Keeps address seen (e .effect .node) × StepWalked address a own t ms e) x
-        → Went own t (pick (isKept (keptStep address (stored address s) w ds x .outcome .reply)) ms []) (worldOf address (keptStep address (stored address s) w ds x))
-    step-went ds ms halts = stayed
-    step-went ds ms (gives {b = e} q) = record { stands = stands (e .effect .node) (e .wait) (q .0 .good) (q .1 .kept) (q .1 .took); fine = q .1 .fine }
+    step-went : (ds : List ℕ) (ms idle : List (Moment A)) {x : Answer (Stepped A)} → After (λ e. Keeps address seen (e .effect .node) × StepWalked address a own t ms e) x
+        → Went own t (momentsBy address (keptStep address (stored address s) w ds x .outcome .reply) ms idle) (worldOf address (keptStep address (stored address s) w ds x))
+    step-went ds ms idle halts = stayed
+    step-went ds ms idle (gives {b = e} q) = record { stands = stands (e .effect .node) (e .wait) (q .0 .good) (q .1 .kept) (q .1 .took); fine = q .1 .fine }
 
-    add-went : (b : A) (n : ℕ) (ds : List ℕ) {x : Answer (Members A)}
+    add-went : (b : A) (n : ℕ) (ds : List ℕ) (idle : List (Moment A)) {x : Answer (Members A)}
         → After (λ m. Keeps address seen (withMembers seen m) × Did address a seen (Added b n) (record { node = withMembers seen m; said = [] })) x
         → Went own t
-        (pick (isKept (kept address (stored address s) ds (andThen x λ m rest. done (record { node = withMembers seen m; messages = []; events = [] }) rest) .reply))
+        (momentsBy address (kept address (stored address s) ds (andThen x λ m rest. done (record { node = withMembers seen m; messages = []; events = [] }) rest) .reply)
         (moment (Added b n) seen (andThen x λ m rest. done (record { node = withMembers seen m; said = [] }) rest))
-        [])
+        idle)
         (record { node = kept address (stored address s) ds (andThen x λ m rest. done (record { node = withMembers seen m; messages = []; events = [] }) rest) .node; wait = w })
-    add-went b n ds halts = stayed
-    add-went b n ds (gives {b = m} {ds = rest} q) =
+    add-went b n ds idle halts = stayed
+    add-went b n ds idle (gives {b = m} {ds = rest} q) =
         let v = one-step address a own seen (Added b n) (record { node = withMembers seen m; said = [] }) t counted-so-far refl never (q .1) in
-        effect-went ds _ (gives {b = record { node = withMembers seen m; messages = []; events = [] }} {ds = rest} (q .0, v))
+        effect-went ds _ [] (gives {b = record { node = withMembers seen m; messages = []; events = [] }} {ds = rest} (q .0, v))
+
+    -- an add of an address that is listed: no entry, by the ledger's own count
+    already-went : (b : A) (n : ℕ) → lists address b seen ≡ true → Went own t (silent (Added b n) seen seen) (record { node = stored address s; wait = w })
+    already-went b n e =
+        let v = one-step address a own seen (Added b n) (record { node = seen; said = [] }) t counted-so-far refl never (already-did address lawful a b n seen (good .whole) e) in
+        record {
+          stands = stands s w g (rw (sym seen-is) (v .kept)) (λ b′ m p h. tk b′ m p h ∙ sym (v .taken));
+          fine = v .fine;
+        }
 
     -- a timer ended, or none was over
     timer-went : (o : Option ℕ) → ((i : ℕ) → o ≡ some i → i < length (seen .timers))
-        → Went own t (pick (isKept (endsAt address (stored address s) o .reply)) (endingAt address o seen) []) (record { node = endsAt address (stored address s) o .node; wait = w })
+        → Went own t (momentsBy address (endsAt address (stored address s) o .reply) (endingAt address o seen) []) (record { node = endsAt address (stored address s) o .node; wait = w })
     timer-went none h = stayed
     timer-went (some i) h =
         let d = endedDeed address (getD (seen .timers) i (noTimer address)) in
-        effect-went [] (traceTimer address i seen)
+        effect-went [] (traceTimer address i seen) []
         (after-then
         (after-both (λ o x y. (x, y)) (end-keeps address lawful i seen [] good (h i refl)) (one-moment address a own seen d t counted-so-far refl never (timer-did address lawful a i seen [] (good .whole))))
         (λ o rest q. gives q))
@@ -120,34 +125,34 @@ module _ {A : Type 0} (address : Address A) (lawful : Lawful address) (a : A) wh
     call-went : (c : Call A) → Went own t (moments address c (record { node = stored address s; wait = w })) (worldOf address (outcome address c (record { node = stored address s; wait = w })))
     unfolding addPeer message detect endTimer loaded
     call-went (Add b n ds) =
-        first-cases (λ (o : Outcome A). Went own t (pick (isKept (o .reply)) (traceAdd address b n seen ds) []) (record { node = o .node; wait = w })) (addTests address (stored address s) b) (refuses (stored address s)) _
+        first-cases (λ (o : Outcome A). Went own t (momentsBy address (o .reply) (traceAdd address b n seen ds) (silent (Added b n) seen seen)) (record { node = o .node; wait = w })) (addTests address (stored address s) b) (refuses (stored address s)) _
         (λ r. stayed)
         (λ p.
         (elim (lists address b seen) as (λ u. lists address b seen ≡ u → let o = orAlready u (stored address s) (kept address (stored address s) ds (joins address b n seen ds)) in
-        Went own t (pick (isKept (o .reply)) (traceAdd address b n seen ds) []) (record { node = o .node; wait = w })) [
-          | true ↦ λ e. stayed
-          | false ↦ λ e. add-went b n ds
+        Went own t (momentsBy address (o .reply) (traceAdd address b n seen ds) (silent (Added b n) seen seen)) (record { node = o .node; wait = w })) [
+          | true ↦ λ e. already-went b n e
+          | false ↦ λ e. add-went b n ds (silent (Added b n) seen seen)
               (after-both (λ m x y. (x, y)) (add-keeps address lawful b n seen ds good (not-false (address .valid b) (p .1 .0)) e) (add-did address lawful a b n seen ds (good .whole) e))
         ]) refl)
     call-went (Receive action gs ds lent) =
-        first-cases (λ (o : Outcome A). Went own t (pick (isKept (o .reply)) (traceMessage address action gs seen ds) []) (record { node = o .node; wait = w })) (messageTests address (stored address s) action gs lent) (refuses (stored address s)) _
+        first-cases (λ (o : Outcome A). Went own t (momentsBy address (o .reply) (traceMessage address action gs seen ds) []) (record { node = o .node; wait = w })) (messageTests address (stored address s) action gs lent) (refuses (stored address s)) _
         (λ r. stayed)
         (λ p.
         let v = and-split (validAction address action) (every (validGossip address) gs) (not-false _ (p .1 .1 .1 .0)) in
-        effect-went ds (traceMessage address action gs seen ds)
+        effect-went ds (traceMessage address action gs seen ds) []
         (after-both (λ e x y. (x, y)) (handle-keeps address lawful action gs seen ds good (v .0) (v .1)) (walk-message address a lawful own action gs seen ds t counted-so-far)))
     call-went (Step now ds lent) =
-        first-cases (λ (o : StepOutcome A). Went own t (pick (isKept (o .outcome .reply)) (traceStep address (w .state) now seen ds) []) (worldOf address o)) (stepTests address (stored address s) w lent) (λ r. record { outcome = refuses (stored address s) r; wait = w }) _
+        first-cases (λ (o : StepOutcome A). Went own t (momentsBy address (o .outcome .reply) (traceStep address (w .state) now seen ds) []) (worldOf address o)) (stepTests address (stored address s) w lent) (λ r. record { outcome = refuses (stored address s) r; wait = w }) _
         (λ r. stayed)
         (λ p.
         elim (due (stored address s .settings) w now) as (λ u. let o = whenDue u (stored address s) w (keptStep address (stored address s) w ds (stepRule address (w .state) now seen ds)) in
-        Went own t (pick (isKept (o .outcome .reply)) (traceStep address (w .state) now seen ds) []) (worldOf address o)) [
-          | true ↦ step-went ds (traceStep address (w .state) now seen ds)
+        Went own t (momentsBy address (o .outcome .reply) (traceStep address (w .state) now seen ds) []) (worldOf address o)) [
+          | true ↦ step-went ds (traceStep address (w .state) now seen ds) []
               (after-both (λ e x y. (x, y)) (step-keeps address lawful (w .state) now seen ds good (not-false (validState address (w .state)) (p .1 .1 .0))) (walk-step address a lawful own (w .state) now seen ds t counted-so-far tk))
           | false ↦ stayed
         ])
     call-went (Timer now lent) =
-        first-cases (λ (o : Outcome A). Went own t (pick (isKept (o .reply)) (endingAt address (firstOver address (seen .settings .«suspect_timeout») now (seen .timers)) seen) []) (record { node = o .node; wait = w })) (timerTests address (stored address s) lent) (refuses (stored address s)) _
+        first-cases (λ (o : Outcome A). Went own t (momentsBy address (o .reply) (endingAt address (firstOver address (seen .settings .«suspect_timeout») now (seen .timers)) seen) []) (record { node = o .node; wait = w })) (timerTests address (stored address s) lent) (refuses (stored address s)) _
         (λ r. stayed)
         (λ p. timer-went (firstOver address (seen .settings .«suspect_timeout») now (seen .timers)) (first-over-in address lawful (seen .settings .«suspect_timeout») now (seen .timers)))
 

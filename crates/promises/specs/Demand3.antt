@@ -1,56 +1,145 @@
--- DEMAND 3, OF THE PROGRAM. Of every run of calls of `swim` from a created node and a fresh wait record at any tick, and of every address. The ledger is 01's, of the calls alone;
--- the node is the one that the last call handed back.
+-- DEMAND 3, OF THE PROGRAM. Of every run of calls of `swim` from a created node and a fresh wait record at any tick, and of every address. The ledger is 01's, replayed from
+-- creation's inputs and the calls alone; the nodes and the rows are those that the program was handed back.
 -- Assumes nothing.
-use mathlib.Core.Path.{_≡_, sym, _∙_, ap}
+use mathlib.Core.Path.{_≡_, refl, sym, _∙_, ap, subst}
 use mathlib.Core.Bool.{true, false}
-use mathlib.Core.List.{List}
-use Prim.Native.Nat.{ℕ, _+_}
-use lib.Dec.{leb}
-use Rattle.model.specs.declared.Reply.the-variants.{Done}
+use mathlib.Core.List.{List, [], _∷_, _++_, map}
+use Prim.Native.Nat.{ℕ, suc, _+_, _≤_, _<_}
+use lib.ListN.{length, take, drop}
 use Rattle.model.specs.declared.Settings.{Settings}
 use Rattle.model.specs.Rows.{one, occurs}
+use Rattle.model.specs.Bounds.{Room}
 use Rattle.model.specs.IPv4.{ipv4, ipv4-lawful}
+use Rattle.model.specs.Words as W
 use Rattle.model.specs.Words.{Deceased}
 use Rattle.model.specs.Node as M
 use Rattle.model.specs.Sound.{sound}
 use Rattle.model.specs.Calls as calls
-use Rattle.history.specs.Moments.{Moment, Told}
+use Rattle.history.specs.Moments.{Moment}
 use Rattle.history.specs.Ledger.{Tally, tally, begun}
 use Rattle.history.specs.Walk.{Along}
-use Rattle.history.specs.Histories.{World, Call, run, trace}
+use Rattle.history.specs.Histories.{World, Call, Receive, Step, outcome, worldOf, run, moments, trace, start}
+use Rattle.history.specs.Tells.{At, targets, Leads, saidBy, deedsIn, asked, askedBy}
+use Rattle.history.specs.Next.{Known, Left, StaysListed, NotAsked, rises-along, bounded}
 use Rattle.history.specs.Demand3 as model
 use Rattle.history.specs.Auditor as auditor
-use Rattle.history.specs.Auditor.{Cause, Left, Everywhere}
+use Rattle.history.specs.Auditor.{Cause, Absent, TakenOut}
+use Rattle.history.specs.Started as timers
+use Rattle.history.specs.Started.{Within, started}
+use Rattle.types.specs.declared.Gossip.{Gossip}
 use Rattle.node.specs.declared.Node.{Node}
+use Rattle.node.specs.declared.Letter.{Letter}
 use Rattle.node.specs.declared.Answer.{Answer}
-use Rattle.node.specs.Views.{storedView, viewNode, createdOf}
+use Rattle.node.specs.Views.{storedView, viewNode, createdOf, fromMessage}
 use Rattle.node.specs.Rows.{loaded-view}
 use Rattle.detection.specs.declared.Wait.{Wait}
-use Rattle.detection.specs.Views.{freshWait}
-use Rattle.swim.specs.Contracts.{Creates}
+use Rattle.detection.specs.Views.{freshWait, toWait}
+use Rattle.swim.specs.Contracts.{Creates, rowAfter}
 use Rattle.promises.specs.Replies.{done-apart}
-use Rattle.promises.specs.Runs.{Runs, world, runs-is, stored-unstored}
+use Rattle.promises.specs.Made.{Held, Said, Accepted, Made}
+use Rattle.promises.specs.Runs.{Runs, rests, makes, world, seen, made-is, runs-is, stored-unstored}
+
+-- what demand 3 says of one call of a run, by its moments ms and the ledger t before it: about the node that the program handed in and the one it was handed back, and the events that
+-- stand in its row
+pub record Account (a own : ℕ) (t : Tally) (h : Held) (c : Call ℕ) (s : Said) (h′ : Held) (ms : List (Moment ℕ)) : Type 0 where
+  -- the moments lead from the node before the call to the node after it
+  pub leads : Leads (viewNode (h .node)) ms (viewNode (h′ .node))
+  -- what they said stands in the row for events, and nothing else was written there
+  pub events : h′ .events ≡ rowAfter (saidBy ms) (h .events)
+  pub reported : s .reported ≡ length (saidBy ms)
+  -- they were asked what the call asks: each record of a message in its order, then a Ping's sender; and so on
+  pub asks : deedsIn ms ≡ askedBy ipv4 (s .reply) (asked ipv4 c (seen h) (toWait (h′ .wait) .state))
+  -- "while listed, its number never falls save at the ping-request step"; "a death notice that removes a peer carries a number no lower than any reported for it"
+  pub fine : Along ipv4 a own ms t
+  -- a step that sends a ping and then waits for the peer b sent it to b, and to nobody else
+  pub pings : (now : ℕ) (ds : List ℕ) (lent : Room) (b n : ℕ) → c ≡ Step now ds lent → toWait (h .wait) .state ≡ W.SendingPing → toWait (h′ .wait) .state ≡ W.WaitingForPingAck b n → map (λ l. l .target) (s .letters) ≡ b ∷ []
+
+-- the call that took an address out, in a run from one node to another: which one it is, the nodes before and after it, at which of its moments, and by what
+pub record Departure (a : ℕ) (n : Node) (w : Wait) (cs : List (Call ℕ)) (n′ : Node) (w′ : Wait) : Type 0 where
+  pub earlier : List (Call ℕ)
+  pub call : Call ℕ
+  pub later : List (Call ℕ)
+  pub splits : cs ≡ earlier ++ (call ∷ later)
+  pub before : Held
+  pub said : Said
+  pub after : Held
+  pub reached : Runs n w earlier (before .node) (before .wait)
+  pub made : Made before call said after
+  pub goes-on : Runs (after .node) (after .wait) later n′ w′
+  pub place : ℕ
+  pub moment : Moment ℕ
+  pub at : At (moments ipv4 call (seen before)) place moment
+  pub left : Left ipv4 a moment
+  pub cause : Cause ipv4 a call (seen before) place (M.numbered ipv4 a (moment .before))
+  -- it did not come back: neither at a later moment of that call nor at one of a later call
+  pub out : Absent ipv4 a (drop (suc place) (moments ipv4 call (seen before)) ++ trace ipv4 later (seen after))
+
+-- ---- the parts of a run
+pub record Split (n : Node) (w : Wait) (earlier : List (Call ℕ)) (c : Call ℕ) (later : List (Call ℕ)) (n′ : Node) (w′ : Wait) : Type 0 where
+  pub before : Held
+  pub said : Said
+  pub after : Held
+  pub reached : Runs n w earlier (before .node) (before .wait)
+  pub made : Made before c said after
+  pub goes-on : Runs (after .node) (after .wait) later n′ w′
+
+split : (earlier : List (Call ℕ)) (c : Call ℕ) (later : List (Call ℕ)) {n n′ : Node} {w w′ : Wait} → Runs n w (earlier ++ (c ∷ later)) n′ w′ → Split n w earlier c later n′ w′
+split [] c later (makes h _ s h′ m rest) = record { before = h; said = s; after = h′; reached = rests (h .node) (h .wait); made = m; goes-on = rest }
+split (x ∷ earlier) c later (makes h _ s h′ m rest) =
+    let v = split earlier c later rest in
+    record { before = v .before; said = v .said; after = v .after; reached = makes h x s h′ m (v .reached); made = v .made; goes-on = v .goes-on }
 
 -- creation gave a node: it is the one of the rules
-created-node : (settings : Settings) (own number : ℕ) (r : Answer) (c : calls.Created ℕ) → r ≡ createdOf c → r .reply ≡ Done 0 → c ≡ calls.created (storedView (r .node))
+created-node : (settings : Settings) (own number : ℕ) (r : Answer) (c : calls.Created ℕ) → r ≡ createdOf c → Accepted r → c ≡ calls.created (storedView (r .node))
 unfolding createdOf
 created-node settings own number r (calls.created s) e said = ap calls.created (sym ((λ i. storedView (e i .node)) ∙ stored-unstored s))
 created-node settings own number r (calls.notCreated x) e said = done-apart (sym said ∙ (λ i. e i .reply))
 
-module _ (settings : Settings) (own number tick : ℕ) (r : Answer) (met : Creates settings own number r) (accepted : r .reply ≡ Done 0)
+targets-are : (ms : List (W.Message ℕ)) → map (λ (l : Letter). l .target) (map fromMessage ms) ≡ targets ms
+targets-are [] = refl
+targets-are (m ∷ ms) = ap (λ (l : List ℕ). m .target ∷ l) (targets-are ms)
+
+-- what is known of a call by the rules, as the program sees it
+account : (a own : ℕ) (t : Tally) (h : Held) (c : Call ℕ) (s : Said) (h′ : Held) (w : World ℕ) → w ≡ seen h → Made h c s h′ → Known ipv4 a own t c w → Account a own t h c s h′ (moments ipv4 c w)
+account a own t h c s h′ w e m k =
+    let v = made-is h c s h′ m in
+    let start : M.loaded (w .node) ≡ viewNode (h .node) = (λ i. M.loaded (e i .node)) ∙ loaded-view (h .node) in
+    let end : M.loaded (outcome ipv4 c w .outcome .node) ≡ viewNode (h′ .node) = (λ i. M.loaded (outcome ipv4 c (e i) .outcome .node)) ∙ sym (λ i. M.loaded (v .world i .node)) ∙ loaded-view (h′ .node) in
+    let said : saidBy (moments ipv4 c w) ≡ outcome ipv4 c (seen h) .outcome .events = k .tells .says ∙ (λ i. outcome ipv4 c (e i) .outcome .events) in
+    let waits : outcome ipv4 c w .wait ≡ toWait (h′ .wait) = (λ i. outcome ipv4 c (e i) .wait) ∙ sym (λ i. v .world i .wait) in
+    let reply : outcome ipv4 c w .outcome .reply ≡ s .reply = (λ i. outcome ipv4 c (e i) .outcome .reply) ∙ sym (v .reply) in
+    record {
+      leads = subst (λ (x : M.Node ℕ). Leads x (moments ipv4 c w) (viewNode (h′ .node))) start (subst (λ (x : M.Node ℕ). Leads (M.loaded (w .node)) (moments ipv4 c w) x) end (k .tells .leads));
+      events = v .events ∙ ap (λ (l : List (W.Gossip ℕ)). rowAfter l (h .events)) (sym said);
+      reported = v .reported ∙ ap length (sym said);
+      asks = k .tells .asks ∙ (λ i. askedBy ipv4 (reply i) (asked ipv4 c (e i) (waits i .state)));
+      fine = k .fine;
+      pings = λ now ds lent b n q p o.
+          ap (map (λ (l : Letter). l .target)) (v .letters) ∙ targets-are (outcome ipv4 c (seen h) .outcome .messages)
+          ∙ ap (λ (x : World ℕ). targets (outcome ipv4 c x .outcome .messages)) (sym e)
+          ∙ k .pings now ds lent b n q (ap (λ (x : World ℕ). x .wait .state) e ∙ p) (ap (λ (x : W.Wait ℕ). x .state) waits ∙ o);
+    }
+
+module _ (settings : Settings) (own number tick : ℕ) (r : Answer) (met : Creates settings own number r) (accepted : Accepted r)
     (cs : List (Call ℕ)) (node : Node) (wait : Wait) (runs : Runs (r .node) (freshWait tick) cs node wait) (a : ℕ) where
-  -- the moments of the calls, by the rules, and the ledger: neither looks at what the program was answered
-  abbrev pub moments : List (Moment ℕ)
-  moments = trace ipv4 cs (world (r .node) (freshWait tick))
+  -- the replay, and the ledger: of creation's inputs and the calls, and neither looks at what the program was answered
+  abbrev pub last : World ℕ
+  last = run ipv4 cs (start ipv4 settings own number tick)
 
   abbrev pub ledger : Tally
-  ledger = tally ipv4 a moments (begun ipv4 a own)
+  ledger = tally ipv4 a (trace ipv4 cs (start ipv4 settings own number tick)) (begun ipv4 a own)
 
   begins : calls.create ipv4 settings own number ≡ calls.created (storedView (r .node))
   begins = created-node settings own number r _ (met .answer) accepted
 
-  ends : M.loaded (run ipv4 cs (world (r .node) (freshWait tick)) .node) ≡ viewNode node
-  ends = (λ i. M.loaded (runs-is runs i .node)) ∙ loaded-view node
+  -- the replay ends at the program's own node and wait record
+  pub replayed : last ≡ world node wait
+  replayed =
+      let fresh = model.created-is ipv4 settings own number (storedView (r .node)) begins .0 in
+      ap (λ (s : M.Stored ℕ). run ipv4 cs (record { node = s; wait = toWait (freshWait tick) })) (sym fresh) ∙ runs-is runs
+
+  ends : M.loaded (last .node) ≡ viewNode node
+  ends = (λ i. M.loaded (replayed i .node)) ∙ loaded-view node
 
   -- "an address's entries less departures is 1 where it is listed and 0 where not"
   pub counted : ledger .entries ≡ ledger .departures + one (M.lists ipv4 a (viewNode node))
@@ -60,18 +149,79 @@ module _ (settings : Settings) (own number tick : ℕ) (r : Answer) (met : Creat
   pub ordered : occurs (ipv4 .same) a (viewNode node .members .order) ≡ one (M.lists ipv4 a (viewNode node))
   ordered = rw (sym ends) (model.ordered ipv4 ipv4-lawful settings own number tick _ begins cs a)
 
-  -- "while listed, its number never falls save at the ping-request step"; "a death notice that removes a peer carries a number no lower than any reported for it"
-  pub fine : Along ipv4 a own moments (begun ipv4 a own)
-  fine = model.fine ipv4 ipv4-lawful settings own number tick _ begins cs a
+  -- no number reported for a listed peer since its last entry, or the last ping-request step while listed, is above the held one
+  pub reported-held : M.lists ipv4 a (viewNode node) ≡ true → ipv4 .same own a ≡ false → ledger .top ≤ M.numbered ipv4 a (viewNode node)
+  reported-held = rw (sym ends) (model.reported-held ipv4 ipv4-lawful settings own number tick _ begins cs a)
 
   -- every node of a run is sound, so refusal 2 never meets one
   pub stays-sound : sound ipv4 (storedView node) ≡ true
-  stays-sound = ap (λ (w : World ℕ). sound ipv4 (w .node)) (sym (runs-is runs)) ∙ model.stays-sound ipv4 ipv4-lawful settings own number tick _ begins cs a
+  stays-sound = ap (λ (w : World ℕ). sound ipv4 (w .node)) (sym replayed) ∙ model.stays-sound ipv4 ipv4-lawful settings own number tick _ begins cs a
 
-  -- the auditor's two questions: "which message or time-out took it out? and can an older message do it?"
-  pub which-took-it-out : Everywhere ipv4 a (λ m. Left ipv4 a m → Cause ipv4 a m) moments
-  which-took-it-out = auditor.which-took-it-out ipv4 ipv4-lawful settings own number tick _ begins cs a
+  -- "Timers stand in starting order": those of the program's node, in the order in which the run's declarations started them
+  pub in-starting-order : Within (viewNode node .timers) (started ipv4 cs (start ipv4 settings own number tick))
+  in-starting-order = rw (sym ends) (timers.in-starting-order ipv4 ipv4-lawful settings own number tick _ begins cs)
 
-  pub no-older-message : Everywhere ipv4 a
-      (λ m. (from n : ℕ) → m .deed ≡ Told (Deceased from a n) → leb (M.numbered ipv4 a (m .before)) n ≡ false → M.lists ipv4 a (m .before) ≡ true → M.lists ipv4 a (m .after) ≡ true) moments
-  no-older-message = auditor.no-older-message ipv4 ipv4-lawful settings own number tick _ begins cs a
+  known : (c : Call ℕ) → Known ipv4 a own ledger c (world node wait)
+  known c = subst (Known ipv4 a own ledger c) replayed (model.known ipv4 ipv4-lawful settings own number tick _ begins cs a c)
+
+  -- the next call of the run, on whatever rows the host lends
+  module _ (gossip events : List Gossip) (c : Call ℕ) (s : Said) (h′ : Held) (made : Made (record { node = node; wait = wait; gossip = gossip; events = events }) c s h′) where
+    abbrev before : Held
+    before = record { node = node; wait = wait; gossip = gossip; events = events }
+
+    -- its moments, by the rules on the replay
+    abbrev pub next : List (Moment ℕ)
+    next = moments ipv4 c last
+
+    pub accounted : Account a own ledger before c s h′ next
+    accounted = account a own ledger before c s h′ last replayed made (model.known ipv4 ipv4-lawful settings own number tick _ begins cs a c)
+
+    -- "while listed, its number never falls save at the ping-request step": from the program's node before the call to the one after it
+    pub never-falls : StaysListed ipv4 a next → NotAsked ipv4 a next → M.lists ipv4 a (viewNode node) ≡ true → M.numbered ipv4 a (viewNode node) ≤ M.numbered ipv4 a (viewNode (h′ .node))
+    never-falls stays quiet l = rises-along ipv4 a own (viewNode node) (viewNode (h′ .node)) next ledger (accounted .leads) (accounted .fine) stays quiet l
+
+    -- "a death notice that removes a peer carries a number no lower than any reported for it since it entered or was written back": record i of a message
+    pub bound : (action : W.Action ℕ) (gs : List (W.Gossip ℕ)) (ds : List ℕ) (lent : Room) (i : ℕ) (m : Moment ℕ) (from n : ℕ) → c ≡ Receive action gs ds lent → At next i m → At gs i (record { event = Deceased from a n })
+        → ipv4 .same own a ≡ false → Left ipv4 a m → tally ipv4 a (take i next) ledger .top ≤ n
+    bound = bounded ipv4 a own ledger c last (model.known ipv4 ipv4-lawful settings own number tick _ begins cs a c)
+
+    -- every moment at which the address left has its cause: record i of the message, or the timer that the call ended
+    pub caused : (i : ℕ) (m : Moment ℕ) → At next i m → Left ipv4 a m → Cause ipv4 a c (world node wait) i (M.numbered ipv4 a (m .before))
+    caused i m p l = auditor.caused ipv4 a ipv4-lawful own ledger c (world node wait) (known c) i m (subst (λ (w : World ℕ). At (moments ipv4 c w) i m) replayed p) l
+
+    -- "can an older message do it?" No: at a record whose number is below the held one the address stays
+    pub no-older-message : (action : W.Action ℕ) (gs : List (W.Gossip ℕ)) (ds : List ℕ) (lent : Room) (i : ℕ) (m : Moment ℕ) (from n : ℕ) → c ≡ Receive action gs ds lent → At next i m → At gs i (record { event = Deceased from a n })
+        → n < M.numbered ipv4 a (m .before) → M.lists ipv4 a (m .before) ≡ true → M.lists ipv4 a (m .after) ≡ true
+    no-older-message = auditor.spared ipv4 a ipv4-lawful own ledger c last (model.known ipv4 ipv4-lawful settings own number tick _ begins cs a c)
+
+  -- "for any controller that has left a list, which message or time-out took it out?" The address is listed in this node, and no longer in the one after some more calls
+  pub which-took-it-out : (more : List (Call ℕ)) (node′ : Node) (wait′ : Wait) → Runs node wait more node′ wait′ → M.lists ipv4 a (viewNode node) ≡ true → M.lists ipv4 a (viewNode node′) ≡ false
+      → Departure a node wait more node′ wait′
+  which-took-it-out more node′ wait′ rest p q = found (auditor.which-took-it-out ipv4 ipv4-lawful settings own number tick _ begins cs a more (rw ends p) (rw ended q))
+    where
+      ended : M.loaded (run ipv4 more last .node) ≡ viewNode node′
+      ended = (λ i. M.loaded (run ipv4 more (replayed i) .node)) ∙ (λ i. M.loaded (runs-is rest i .node)) ∙ loaded-view node′
+
+      found : TakenOut ipv4 a more last → Departure a node wait more node′ wait′
+      found t =
+          let v = split (t .earlier) (t .call) (t .later) (subst (λ (l : List (Call ℕ)). Runs node wait l node′ wait′) (t .splits) rest) in
+          let there : run ipv4 (t .earlier) last ≡ seen (v .before) = ap (run ipv4 (t .earlier)) replayed ∙ runs-is (v .reached) in
+          record {
+            earlier = t .earlier;
+            call = t .call;
+            later = t .later;
+            splits = t .splits;
+            before = v .before;
+            said = v .said;
+            after = v .after;
+            reached = v .reached;
+            made = v .made;
+            goes-on = v .goes-on;
+            place = t .place;
+            moment = t .moment;
+            at = subst (λ (w : World ℕ). At (moments ipv4 (t .call) w) (t .place) (t .moment)) there (t .at);
+            left = t .left;
+            cause = subst (λ (w : World ℕ). Cause ipv4 a (t .call) w (t .place) (M.numbered ipv4 a (t .moment .before))) there (t .cause);
+            out = subst (λ (w : World ℕ). Absent ipv4 a (drop (suc (t .place)) (moments ipv4 (t .call) (seen (v .before))) ++ trace ipv4 (t .later) w)) (sym (made-is (v .before) (t .call) (v .said) (v .after) (v .made) .world))
+                (subst (λ (w : World ℕ). Absent ipv4 a (drop (suc (t .place)) (moments ipv4 (t .call) w) ++ trace ipv4 (t .later) (worldOf ipv4 (outcome ipv4 (t .call) w)))) there (t .out));
+          }

@@ -1,140 +1,134 @@
--- A REFUSED CALL hands back the node as it came, touches no lent row and no wait record, and uses no draw: whatever the call, and whichever of the ten it gives.
+-- A CALL THAT IS NOT KEPT hands back the node as it came, touches no lent row and no wait record, sends and reports nothing and uses no draw: whatever the call,
+-- whichever of the ten refused it, and so if it answers "already" or "not due".
 -- Assumes nothing.
-use mathlib.Core.Path.{_≡_, sym, _∙_, ap}
-use mathlib.Core.Bool.{true, false}
-use mathlib.Core.List.{List, []}
-use mathlib.Core.Option.{none, some}
+use mathlib.Core.Path.{_≡_, refl, sym, _∙_, ap, subst}
+use mathlib.Core.List.{List, [], map}
 use Prim.Native.Nat.{ℕ}
+use lib.ListN.{length}
 use Rattle.model.specs.declared.Refusal.{Refusal}
 use Rattle.model.specs.declared.Reply.{Reply}
-use Rattle.model.specs.declared.Reply.the-variants.{Refused}
+use Rattle.model.specs.declared.Reply.the-variants.{Done, Already, NotDue, Refused}
 use Rattle.model.specs.declared.Settings.{Settings}
-use Rattle.model.specs.Bounds.{Room}
-use Rattle.model.specs.Answers.{Answer, done, refused}
 use Rattle.model.specs.IPv4.{ipv4}
-use Rattle.model.specs.Words as W
-use Rattle.model.specs.Node as M
-use Rattle.model.specs.Handler.{handle}
-use Rattle.model.specs.Detector as D
 use Rattle.model.specs.Calls as calls
 use Rattle.history.specs.Histories.{Call}
-use Rattle.history.specs.Worlds.{first-cases}
 use Rattle.types.specs.declared.Gossip.{Gossip}
-use Rattle.types.specs.Views.{from-to-gossips}
+use Rattle.types.specs.declared.Action.{Action}
+use Rattle.types.specs.Views.{toGossip, toAction, from-to-gossips}
 use Rattle.node.specs.declared.Node.{Node}
-use Rattle.node.specs.declared.Answer.{Answer as NodeAnswer}
-use Rattle.node.specs.Views.{storedView, unstored, answerOf, createdOf, plainAnswer, packNode, nobody}
+use Rattle.node.specs.declared.Answer.{Answer}
+use Rattle.node.specs.Views.{storedView, answerOf, createdOf, plainAnswer, packNode, nobody}
 use Rattle.node.specs.Rows.{unstored-stored}
 use Rattle.detection.specs.declared.Wait.{Wait}
 use Rattle.detection.specs.Views.{toWait, fromWait, from-to-wait}
 use Rattle.swim.specs.declared.Outcome.{Outcome}
-use Rattle.swim.specs.Contracts.{outcomeOf, rowAfter, Ends, Creates}
-use Rattle.promises.specs.Replies.{done-apart, already-apart, not-due-apart}
-use Rattle.promises.specs.Made.{Held, Made, adds, receives, steps, endsTimer}
+use Rattle.swim.specs.Contracts.{room, outcomeOf, rowAfter, Ends, Creates, Adds, Receives, Steps, EndsTimer}
+use Rattle.promises.specs.Replies.{NotDone, done-apart}
+use Rattle.promises.specs.Given.{add-table, message-table, step-table, timer-table}
+use Rattle.promises.specs.Made.{lettersOf, Held, Said, Made, adds, receives, steps, endsTimer}
 
--- ---- by the rules: a refused call gives what it was given
-module _ (s : M.Stored ℕ) (x : Refusal) where
-  abbrev Back : calls.Outcome ℕ → Type 0
-  Back o = o .reply ≡ Refused x → o ≡ calls.refuses s x
+-- nothing was sent and nothing reported
+abbrev pub idleOutcome : Reply → Node → Outcome
+idleOutcome z n = record { answer = plainAnswer z n; reported = 0 }
 
-  refuses-back : (r : Refusal) → Back (calls.refuses s r)
-  refuses-back r e = λ i. record { reply = e i; node = s; messages = []; events = [] }
-
-  kept-back : (ds : List ℕ) (e : Answer (M.Effect ℕ)) → Back (calls.kept ipv4 s ds e)
-  kept-back ds (refused r) e = refuses-back r e
-  kept-back ds (done o rest) e = done-apart e
-
-  add-back : (a n : ℕ) (ds : List ℕ) → Back (calls.addPeer ipv4 s a n ds)
-  unfolding calls.addPeer
-  add-back a n ds =
-      first-cases Back (calls.addTests ipv4 s a) (calls.refuses s) _ refuses-back
-      (λ p.
-      elim (M.lists ipv4 a (M.loaded s)) as (λ t. Back (calls.orAlready t s (calls.kept ipv4 s ds (calls.joins ipv4 a n (M.loaded s) ds)))) [
-        | true ↦ λ e. already-apart e
-        | false ↦ kept-back ds (calls.joins ipv4 a n (M.loaded s) ds)
-      ])
-
-  message-back : (action : W.Action ℕ) (gs : List (W.Gossip ℕ)) (ds : List ℕ) (lent : Room) → Back (calls.message ipv4 s action gs ds lent)
-  unfolding calls.message
-  message-back action gs ds lent = first-cases Back (calls.messageTests ipv4 s action gs lent) (calls.refuses s) _ refuses-back (λ p. kept-back ds (handle ipv4 action gs (M.loaded s) ds))
-
-  timer-back : (now : ℕ) (lent : Room) → Back (calls.endTimer ipv4 s now lent)
-  unfolding calls.endTimer
-  timer-back now lent =
-      first-cases Back (calls.timerTests ipv4 s lent) (calls.refuses s) _ refuses-back
-      (λ p.
-      elim (D.firstOver ipv4 (s .settings .«suspect_timeout») now (M.loaded s .timers)) as (λ t. Back (calls.endsAt ipv4 s t)) [
-        | none ↦ λ e. not-due-apart e
-        | some i ↦ kept-back [] (calls.reports ipv4 (D.endAt ipv4 i (M.loaded s) []))
-      ])
-
-  -- the detector step gives the wait record too
-  abbrev StepBack : W.Wait ℕ → calls.StepOutcome ℕ → Type 0
-  StepBack w o = o .outcome .reply ≡ Refused x → o ≡ record { outcome = calls.refuses s x; wait = w }
-
-  refuses-step-back : (w : W.Wait ℕ) (r : Refusal) → StepBack w (record { outcome = calls.refuses s r; wait = w })
-  refuses-step-back w r e = λ i. record { outcome = record { reply = e i; node = s; messages = []; events = [] }; wait = w }
-
-  kept-step-back : (w : W.Wait ℕ) (ds : List ℕ) (e : Answer (D.Stepped ℕ)) → StepBack w (calls.keptStep ipv4 s w ds e)
-  kept-step-back w ds (refused r) e = refuses-step-back w r e
-  kept-step-back w ds (done o rest) e = done-apart e
-
-  step-back : (w : W.Wait ℕ) (now : ℕ) (ds : List ℕ) (lent : Room) → StepBack w (calls.detect ipv4 s w now ds lent)
-  unfolding calls.detect
-  step-back w now ds lent =
-      first-cases (StepBack w) (calls.stepTests ipv4 s w lent) (λ r. record { outcome = calls.refuses s r; wait = w }) _ (refuses-step-back w)
-      (λ p.
-      elim (D.due (s .settings) w now) as (λ t. StepBack w (calls.whenDue t s w (calls.keptStep ipv4 s w ds (D.step ipv4 (w .state) now (M.loaded s) ds)))) [
-        | true ↦ kept-step-back w ds (D.step ipv4 (w .state) now (M.loaded s) ds)
-        | false ↦ λ e. not-due-apart e
-      ])
-
--- ---- and so in rows
-abbrev nothing-written : (lent : List Gossip) → rowAfter [] lent ≡ lent
+pub nothing-written : (lent : List Gossip) → rowAfter [] lent ≡ lent
 unfolding rowAfter
 nothing-written lent = from-to-gossips lent
 
-module _ (n : Node) (x : Refusal) where
-  answer-back : (o : calls.Outcome ℕ) → o ≡ calls.refuses (storedView n) x → answerOf o .node ≡ n
+-- what changes nothing by the rules changes nothing in rows
+module _ (n : Node) (z : Reply) (o : calls.Outcome ℕ) (same : o ≡ calls.unchanged z (storedView n)) where
+  answer-back : answerOf o ≡ plainAnswer z n
   unfolding answerOf
-  answer-back o e = (λ i. unstored (e i .node)) ∙ unstored-stored n
+  answer-back = ap answerOf same ∙ ap (plainAnswer z) (unstored-stored n)
 
-  ends-back : (o : calls.Outcome ℕ) (gossip events : List Gossip) (r : Outcome) (g e : List Gossip) → Ends o gossip events r g e → Back (storedView n) x o → r .answer .reply ≡ Refused x
-      → (r .answer .node ≡ n) × (g ≡ gossip) × (e ≡ events)
+  outcome-back : outcomeOf o ≡ idleOutcome z n
+  unfolding outcomeOf
+  outcome-back = λ i. record { answer = answer-back i; reported = length (same i .events) }
+
+  ends-back : (gossip events : List Gossip) (r : Outcome) (g e : List Gossip) → Ends o gossip events r g e → (r ≡ idleOutcome z n) × (g ≡ gossip) × (e ≡ events)
+  ends-back gossip events r g e met = (
+    met .answer ∙ outcome-back,
+    met .spoken ∙ (λ i. rowAfter (calls.packed (same i .messages)) gossip) ∙ nothing-written gossip,
+    met .told ∙ (λ i. rowAfter (same i .events) events) ∙ nothing-written events,
+  )
+
+-- ---- the calls
+pub add-unkept : (node : Node) (a number : ℕ) (draws : List ℕ) (r : Answer) → Adds node a number draws r → NotDone (r .reply) → r ≡ plainAnswer (r .reply) node
+unfolding answerOf
+add-unkept node a number draws r met unkept =
+    met .answer ∙ answer-back node (r .reply) _ (add-table ipv4 (storedView node) a number draws .keeps (r .reply) unkept (sym (λ i. met .answer i .reply)))
+
+module _ (node : Node) (draws : List ℕ) (gossip events : List Gossip) (r : Outcome) (g e : List Gossip) (unkept : NotDone (r .answer .reply)) where
+  pub receive-unkept : (action : Action) (rows : List Gossip) → Receives node action rows draws gossip events r g e → (r ≡ idleOutcome (r .answer .reply) node) × (g ≡ gossip) × (e ≡ events)
   unfolding outcomeOf answerOf
-  ends-back o gossip events r g e c back said =
-      let same : o ≡ calls.refuses (storedView n) x = back (sym (λ i. c .answer i .answer .reply) ∙ said) in (
-        (λ i. c .answer i .answer .node) ∙ answer-back o same,
-        c .spoken ∙ (λ i. rowAfter (calls.packed (same i .messages)) gossip) ∙ nothing-written gossip,
-        c .told ∙ (λ i. rowAfter (same i .events) events) ∙ nothing-written events,
-      )
+  receive-unkept action rows met =
+      ends-back node (r .answer .reply) _
+      (message-table ipv4 (storedView node) (toAction action) (map toGossip rows) draws (room gossip events) .keeps (r .answer .reply) unkept (sym (λ i. met .ends .answer i .answer .reply)))
+      gossip events r g e (met .ends)
 
-keeps : (x : Refusal) (h : Held) (c : Call ℕ) (reply : Reply) (h′ : Held) → Made h c reply h′ → reply ≡ Refused x → h′ ≡ h
-unfolding answerOf outcomeOf
-keeps x h _ _ _ (adds a number draws r met) said =
-    let same = add-back (storedView (h .node)) x a number draws (sym (λ i. met .answer i .reply) ∙ said) in
-    let node : r .node ≡ h .node = (λ i. met .answer i .node) ∙ answer-back (h .node) x _ same in
-    λ i. record { node = node i; wait = h .wait; gossip = h .gossip; events = h .events }
-keeps x h _ _ _ (receives action rows draws r gossip events met) said =
-    let b = ends-back (h .node) x _ (h .gossip) (h .events) r gossip events (met .ends) (message-back (storedView (h .node)) x _ _ draws _) said in
-    λ i. record { node = b .0 i; wait = h .wait; gossip = b .1 i; events = b .2 i }
-keeps x h _ _ _ (steps tick draws r wait gossip events met) said =
-    let same = step-back (storedView (h .node)) x (toWait (h .wait)) tick draws _ (sym (λ i. met .ends .answer i .answer .reply) ∙ said) in
-    let b = ends-back (h .node) x _ (h .gossip) (h .events) r gossip events (met .ends) (λ e. λ i. same i .outcome) said in
-    let kept : wait ≡ h .wait = met .waits ∙ (λ i. fromWait (same i .wait)) ∙ from-to-wait (h .wait) in
-    λ i. record { node = b .0 i; wait = kept i; gossip = b .1 i; events = b .2 i }
-keeps x h _ _ _ (endsTimer tick r events met) said =
-    let same = timer-back (storedView (h .node)) x tick _ (sym (λ i. met .answer i .answer .reply) ∙ said) in
-    let node : r .answer .node ≡ h .node = (λ i. met .answer i .answer .node) ∙ answer-back (h .node) x _ same in
-    let told : events ≡ h .events = met .told ∙ (λ i. rowAfter (same i .events) (h .events)) ∙ nothing-written (h .events) in
-    λ i. record { node = node i; wait = h .wait; gossip = h .gossip; events = told i }
+  pub step-unkept : (wait w : Wait) (tick : ℕ) → Steps node wait tick draws gossip events r w g e → (r ≡ idleOutcome (r .answer .reply) node) × (w ≡ wait) × (g ≡ gossip) × (e ≡ events)
+  unfolding outcomeOf answerOf
+  step-unkept wait w tick met =
+      let same = step-table ipv4 (storedView node) (toWait wait) tick draws (room gossip events) .keeps (r .answer .reply) unkept (sym (λ i. met .ends .answer i .answer .reply)) in
+      let back = ends-back node (r .answer .reply) _ (λ i. same i .outcome) gossip events r g e (met .ends) in
+      (back .0, met .waits ∙ (λ i. fromWait (same i .wait)) ∙ from-to-wait wait, back .1, back .2)
+
+pub end-timer-unkept : (node : Node) (tick : ℕ) (events : List Gossip) (r : Outcome) (e : List Gossip) → EndsTimer node tick events r e → NotDone (r .answer .reply) → (r ≡ idleOutcome (r .answer .reply) node) × (e ≡ events)
+unfolding outcomeOf answerOf
+end-timer-unkept node tick events r e met unkept =
+    let same = timer-table ipv4 (storedView node) tick (record { gossip = 0; events = length events }) .keeps (r .answer .reply) unkept (sym (λ i. met .answer i .answer .reply)) in
+    (met .answer ∙ outcome-back node (r .answer .reply) _ same, met .told ∙ (λ i. rowAfter (same i .events) events) ∙ nothing-written events)
+
+-- ---- all of them at once
+keeps : (h : Held) (c : Call ℕ) (s : Said) (h′ : Held) → Made h c s h′ → NotDone (s .reply) → h′ ≡ h
+keeps h _ _ _ (adds a number draws r met) unkept =
+    let same = add-unkept (h .node) a number draws r met unkept in
+    λ i. record { node = same i .node; wait = h .wait; gossip = h .gossip; events = h .events }
+keeps h _ _ _ (receives action rows draws r gossip events met) unkept =
+    let b = receive-unkept (h .node) draws (h .gossip) (h .events) r gossip events unkept action rows met in
+    λ i. record { node = b .0 i .answer .node; wait = h .wait; gossip = b .1 i; events = b .2 i }
+keeps h _ _ _ (steps tick draws r wait gossip events met) unkept =
+    let b = step-unkept (h .node) draws (h .gossip) (h .events) r gossip events unkept (h .wait) wait tick met in
+    λ i. record { node = b .0 i .answer .node; wait = b .1 i; gossip = b .2 i; events = b .3 i }
+keeps h _ _ _ (endsTimer tick r events met) unkept =
+    let b = end-timer-unkept (h .node) tick (h .events) r events met unkept in
+    λ i. record { node = b .0 i .answer .node; wait = h .wait; gossip = h .gossip; events = b .1 i }
+
+unkept-draws : (z : Reply) → NotDone z → calls.drawsUsed z ≡ 0
+unkept-draws (Done used) unkept = absurd unkept
+unkept-draws Already unkept = refl
+unkept-draws NotDue unkept = refl
+unkept-draws (Refused r) unkept = refl
+
+-- and says to have written nothing
+silent : (h : Held) (c : Call ℕ) (s : Said) (h′ : Held) → Made h c s h′ → NotDone (s .reply) → s .reported ≡ 0
+silent h _ _ _ (adds a number draws r met) unkept = refl
+silent h _ _ _ (receives action rows draws r gossip events met) unkept = λ i. receive-unkept (h .node) draws (h .gossip) (h .events) r gossip events unkept action rows met .0 i .reported
+silent h _ _ _ (steps tick draws r wait gossip events met) unkept = λ i. step-unkept (h .node) draws (h .gossip) (h .events) r gossip events unkept (h .wait) wait tick met .0 i .reported
+silent h _ _ _ (endsTimer tick r events met) unkept = λ i. end-timer-unkept (h .node) tick (h .events) r events met unkept .0 i .reported
+
+-- and sends none
+sends-none : (h : Held) (c : Call ℕ) (s : Said) (h′ : Held) → Made h c s h′ → NotDone (s .reply) → s .letters ≡ []
+sends-none h _ _ _ (adds a number draws r met) unkept = λ i. lettersOf (add-unkept (h .node) a number draws r met unkept i)
+sends-none h _ _ _ (receives action rows draws r gossip events met) unkept = λ i. lettersOf (receive-unkept (h .node) draws (h .gossip) (h .events) r gossip events unkept action rows met .0 i .answer)
+sends-none h _ _ _ (steps tick draws r wait gossip events met) unkept = λ i. lettersOf (step-unkept (h .node) draws (h .gossip) (h .events) r gossip events unkept (h .wait) wait tick met .0 i .answer)
+sends-none h _ _ _ (endsTimer tick r events met) unkept = λ i. lettersOf (end-timer-unkept (h .node) tick (h .events) r events met unkept .0 i .answer)
+
+pub record Untouched (h h′ : Held) (s : Said) : Type 0 where
+  pub held : h′ ≡ h
+  pub letters : s .letters ≡ []
+  pub reported : s .reported ≡ 0
+  pub draws : calls.drawsUsed (s .reply) ≡ 0
+
+pub unkept-keeps : (h h′ : Held) (c : Call ℕ) (s : Said) → Made h c s h′ → NotDone (s .reply) → Untouched h h′ s
+unkept-keeps h h′ c s m unkept = record { held = keeps h c s h′ m unkept; letters = sends-none h c s h′ m unkept; reported = silent h c s h′ m unkept; draws = unkept-draws (s .reply) unkept }
 
 -- the theorem
-pub refused-keeps : (h h′ : Held) (c : Call ℕ) (reply : Reply) (x : Refusal) → Made h c reply h′ → reply ≡ Refused x → (h′ ≡ h) × (calls.drawsUsed reply ≡ 0)
-refused-keeps h h′ c reply x m said = (keeps x h c reply h′ m said, ap calls.drawsUsed said)
+pub refused-keeps : (h h′ : Held) (c : Call ℕ) (s : Said) (x : Refusal) → Made h c s h′ → s .reply ≡ Refused x → Untouched h h′ s
+refused-keeps h h′ c s x m said = unkept-keeps h h′ c s m (subst NotDone (sym said) tt)
 
 -- "refused, it returns no node": in its place stand zeros, and nothing is sent
-pub refused-creates-nothing : (settings : Settings) (own number : ℕ) (r : NodeAnswer) (x : Refusal) → Creates settings own number r → r .reply ≡ Refused x → r ≡ plainAnswer (Refused x) (packNode nobody)
+pub refused-creates-nothing : (settings : Settings) (own number : ℕ) (r : Answer) (x : Refusal) → Creates settings own number r → r .reply ≡ Refused x → r ≡ plainAnswer (Refused x) (packNode nobody)
 unfolding createdOf
 refused-creates-nothing settings own number r x met said = bare (calls.create ipv4 settings own number) (met .answer)
   where

@@ -1,11 +1,15 @@
--- The kinds of reply are apart, and a refusal can be read off its reply.
+-- The kinds of reply are apart, and so are the numbers of the refusals.
 -- Assumes nothing.
-use mathlib.Core.Path.{_≡_, ap}
+use mathlib.Core.Path.{_≡_, refl, sym, _∙_, ap}
 use Prim.Native.Nat.{ℕ}
 use native.Mathlib.Omega.{arith}
+use lib.Dec.{eqb}
 use Rattle.model.specs.declared.Refusal.{Refusal}
+use Rattle.model.specs.declared.Refusal.the-variants.{Setting, Unsound, ShortRow, ManyRecords, AddressRange, NumberEnd, ListFull, DrawsShort, HeapFull, TimersFull}
 use Rattle.model.specs.declared.Reply.{Reply}
 use Rattle.model.specs.declared.Reply.the-variants.{Done, Already, NotDue, Refused}
+use Rattle.model.specs.Rows.{pick}
+use Rattle.model.specs.Answers.{numberOf}
 
 kind : Reply → ℕ
 kind (Done used) = 0
@@ -13,11 +17,12 @@ kind Already = 1
 kind NotDue = 2
 kind (Refused r) = 3
 
-refusalOf : Reply → Refusal → Refusal
-refusalOf (Done used) x = x
-refusalOf Already x = x
-refusalOf NotDue x = x
-refusalOf (Refused r) x = r
+-- a reply of a call that is not kept: a refusal, "already", "not due"
+abbrev pub NotDone : Reply → Type 0
+NotDone (Done used) = ⊥
+NotDone Already = Unit {0}
+NotDone NotDue = Unit {0}
+NotDone (Refused r) = Unit {0}
 
 pub done-apart : {B : Type 0} {used : ℕ} {x : Refusal} → Done used ≡ Refused x → B
 unfolding kind
@@ -31,6 +36,44 @@ pub not-due-apart : {B : Type 0} {x : Refusal} → NotDue ≡ Refused x → B
 unfolding kind
 not-due-apart e = let z : _≡_ {A = ℕ} 2 3 = ap kind e in absurd (omega arith)
 
-pub same-refusal : {r x : Refusal} → Refused r ≡ Refused x → r ≡ x
-unfolding refusalOf
-same-refusal {x = x} e = ap (λ (v : Reply). refusalOf v x) e
+-- ---- numbers
+-- the refusal of a number of the table
+named : ℕ → Refusal
+named n =
+    pick (eqb n 1) Setting
+    (pick (eqb n 2) Unsound
+    (pick (eqb n 3) ShortRow
+    (pick (eqb n 4) ManyRecords
+    (pick (eqb n 5) AddressRange
+    (pick (eqb n 6) NumberEnd
+    (pick (eqb n 7) ListFull
+    (pick (eqb n 8) DrawsShort
+    (pick (eqb n 9) HeapFull TimersFull))))))))
+
+named-is : (x : Refusal) → named (numberOf x) ≡ x
+unfolding named
+named-is Setting = refl
+named-is Unsound = refl
+named-is ShortRow = refl
+named-is ManyRecords = refl
+named-is AddressRange = refl
+named-is NumberEnd = refl
+named-is ListFull = refl
+named-is DrawsShort = refl
+named-is HeapFull = refl
+named-is TimersFull = refl
+
+pub same-number : (r x : Refusal) → numberOf r ≡ numberOf x → r ≡ x
+same-number r x e = sym (named-is r) ∙ ap named e ∙ named-is x
+
+pub not-zero : (x : Refusal) → _≡_ {A = ℕ} 0 (numberOf x) → ⊥
+not-zero Setting e = absurd (omega arith)
+not-zero Unsound e = absurd (omega arith)
+not-zero ShortRow e = absurd (omega arith)
+not-zero ManyRecords e = absurd (omega arith)
+not-zero AddressRange e = absurd (omega arith)
+not-zero NumberEnd e = absurd (omega arith)
+not-zero ListFull e = absurd (omega arith)
+not-zero DrawsShort e = absurd (omega arith)
+not-zero HeapFull e = absurd (omega arith)
+not-zero TimersFull e = absurd (omega arith)

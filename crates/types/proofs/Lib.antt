@@ -1,4 +1,3 @@
 pub mod Sameness
 pub mod Measuring
 pub mod Ranging
-pub mod Wired

@@ -1,2 +1,3 @@
 pub mod Views
 pub mod Wire
+pub mod IPv4Wire

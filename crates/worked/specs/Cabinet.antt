@@ -8,7 +8,7 @@ use Rattle.model.specs.declared.State.the-variants as state
 use Rattle.model.specs.declared.Settings.{Settings}
 use Rattle.model.specs.Answers.{Answer, done, refused}
 use Rattle.model.specs.IPv4.{ipv4}
-use Rattle.model.specs.Words.{Event, Joined, Suspected, Deceased, Gossip, Entry, unused, sendsOf, Member}
+use Rattle.model.specs.Words.{Event, Gossip, Entry, unused, sendsOf, Member}
 use Rattle.model.specs.Heap.{push}
 use Rattle.model.specs.Choose.{entryOf}
 use Rattle.model.specs.Members.{Members}

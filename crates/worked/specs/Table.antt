@@ -1,22 +1,22 @@
 -- 01's worked numbers: what is computed, and what 01 says it is.
 -- Assumes nothing.
 use mathlib.Core.Path.{_≡_}
-use mathlib.Core.Bool.{true, false}
+use mathlib.Core.Bool.{false}
 use mathlib.Core.List.{List, [], _∷_, map}
-use mathlib.Core.Option.{Option, none, some}
+use mathlib.Core.Option.{none, some}
 use Prim.Native.Nat.{ℕ}
 use lib.ListN.{length, getD}
 use lib.Dec.{eqb}
 use Rattle.model.specs.declared.State.the-variants as state
-use Rattle.model.specs.Answers.{Answer, done, refused}
+use Rattle.model.specs.Answers.{Answer, done}
 use Rattle.model.specs.Limit.{limitOf}
 use Rattle.model.specs.Size.{sizeOf}
 use Rattle.model.specs.IPv4.{ipv4}
-use Rattle.model.specs.Words.{Event, Joined, Recovered, Suspected, Deceased, Gossip, Entry}
+use Rattle.model.specs.Words.{Joined, Suspected, Gossip, Entry}
 use Rattle.model.specs.Choose.{choose, termsOf}
 use Rattle.model.specs.Members as list
-use Rattle.model.specs.Node.{Node, Out, lists, numbered, stateOf}
-use Rattle.model.specs.Handler.{joined, suspected, deceased}
+use Rattle.model.specs.Node.{lists, numbered, stateOf}
+use Rattle.model.specs.Handler.{suspected, deceased}
 use Rattle.model.specs.Detector.{sendPing, Stepped}
 use Rattle.worked.specs.Cabinet.{own, B, C, host, says, member, members, order, node, withB, heapOf, ofGiven}
 
@@ -79,6 +79,9 @@ table =
     ∷ (ofGiven (λ p. p .picks) (list.pickFrom eqb 0 own none 2 (order (B ∷ C ∷ own ∷ []) 1) (2 ∷ 0 ∷ [])) is some (C ∷ C ∷ []))
     -- "tie: push x,y,z, all alive; limit 3, max_selected 6, no deaths held, all fit: sent x,z,y"; and the trap "first in, first out"
     ∷ (choose ipv4 (termsOf 6 1400 3) (heapOf (x ∷ y ∷ z ∷ []) []) [] .chosen is (x ∷ z ∷ y ∷ []))
+    -- "One heap may pass its share while the other is short": no deaths are held, and three of the living go out at a share of 1
+    ∷ (termsOf 2 1400 3 .alive-share is 1)
+    ∷ (choose ipv4 (termsOf 2 1400 3) (heapOf (x ∷ y ∷ z ∷ []) []) [] .from-alive is 3)
     -- "B Pending 4, Suspected 4: nothing; 5: Suspected 5"
     ∷ (suspected ipv4 B 4 (withB state.Pending 4) [] is done (record { node = withB state.Pending 4; said = [] }) [])
     ∷ (ofGiven (λ o. numbered ipv4 B (o .node)) (suspected ipv4 B 5 (withB state.Pending 4) []) is some 5)

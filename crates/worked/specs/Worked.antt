@@ -1,6 +1,6 @@
 -- Every case of the table holds: the rules compute it.
 -- Assumes nothing.
-use mathlib.Core.Path.{_≡_, refl}
+use mathlib.Core.Path.{refl}
 use mathlib.Core.List.{List, [], _∷_}
 use Rattle.model.specs.Answers.{when}
 use Rattle.model.specs.Rows.{swap}
@@ -25,4 +25,4 @@ pub worked : All table
 unfolding when swap leastFrom leastPower limitOf varintFrom varintLength numberSize sizeOver sizeOf digits textLength partsOf sameGossip climbIn climb lower downIn down push sinkTop removeTop termsOf wasNoted takeTop tryHeap tryAlive tryDeceased over rounds choose shuffle advance added add remove update seek pickFrom quiet pushed emitAlive emitDeceased change leave spread believed suspectedOther suspected deceased pinged sendPing
 worked =
     refl and refl and refl and refl and refl and refl and refl and refl and refl and refl and refl and refl
-    and refl and refl and refl and refl and refl and refl and refl and refl and refl and refl and refl and refl and end
+    and refl and refl and refl and refl and refl and refl and refl and refl and refl and refl and refl and refl and refl and refl and end

@@ -1,0 +1,239 @@
+-- WHAT A CALL GIVES: its tests in their order, then "already" or "not due", then what stops the rules. By the rules, for any type of address.
+-- Assumes nothing.
+use mathlib.Core.Path.{_≡_, refl, sym, _∙_, ap, subst}
+use mathlib.Core.Logic.{_↔_}
+use mathlib.Core.Bool.{Bool, true, false, not, _&&_}
+use mathlib.Core.List.{List, [], _∷_}
+use mathlib.Core.Option.{Option, none, some}
+use Prim.Native.Nat.{ℕ, _-_, _≤_, _<_}
+use native.Mathlib.Omega.{arith}
+use lib.ListN.{length}
+use lib.Dec.{eqb, ltb}
+use borrow.Author.Tests.{ltb-true, ltb-false}
+use Rattle.model.specs.declared.Refusal.{Refusal}
+use Rattle.model.specs.declared.Reply.{Reply}
+use Rattle.model.specs.declared.Reply.the-variants.{Done, Already, NotDue, Refused}
+use Rattle.model.specs.Bounds.{Room}
+use Rattle.model.specs.Rows.{has}
+use Rattle.model.specs.Answers.{Answer, done, refused, numberOf}
+use Rattle.model.specs.Words.{Address, Gossip, Action, Wait, Timer}
+use Rattle.model.specs.Node.{Stored, loaded, lists}
+use Rattle.model.specs.Handler.{handle}
+use Rattle.model.specs.Detector as D
+use Rattle.model.specs.Calls as calls
+use Rattle.model.specs.Calls.{replyNumber, firstOf}
+use Rattle.promises.specs.Replies.{NotDone, already-apart, not-due-apart, same-number, not-zero}
+use Rattle.promises.specs.Firsts.{FirstFails, Among, Passed, first-among, all-among, among-also, exactly, after-tests, by-tests, first-cases}
+use Rattle.promises.specs.Stops.{addStops, stepStops, endStops, MessageStops, noneOver}
+use Rattle.promises.specs.Stopping.{joins-refuses, step-refuses, end-refuses, step-among}
+use Rattle.promises.specs.Records.{message-among, handle-exactly}
+
+-- What a call gives. `idly` is what it gives, by its reply, where it changes nothing; `y` is its word for nothing to do, and P when; S says of each of 6 to 10 what stops the rules
+pub record Tabled {B : Type 0} (replyOf : B → Reply) (idly : Reply → B) (y : Reply) (ts : List (Bool × Refusal)) (P : Type 0) (S : Refusal → Type 0) (given : B) : Type 0 where
+  pub tests : (x : Refusal) → numberOf x < 6 → (replyNumber (replyOf given) ≡ numberOf x) ↔ FirstFails x ts
+  pub stops : (x : Refusal) → 6 ≤ numberOf x → (replyNumber (replyOf given) ≡ numberOf x) ↔ (Passed ts × S x)
+  pub idles : (replyOf given ≡ y) ↔ (Passed ts × P)
+  pub keeps : (z : Reply) → NotDone z → replyOf given ≡ z → given ≡ idly z
+
+-- n is one of some numbers
+abbrev pub OneOf : List ℕ → ℕ → Type 0
+OneOf ns n = has eqb n ns ≡ true
+
+-- which numbers a call can give
+pub numbers : {B : Type 0} {replyOf : B → Reply} {idly : Reply → B} {y : Reply} {ts : List (Bool × Refusal)} {P : Type 0} {S : Refusal → Type 0} {given : B} → Tabled replyOf idly y ts P S given
+    → (ns : List ℕ) → OneOf ns 0 → Among (λ r. OneOf ns (numberOf r)) ts → ((x : Refusal) → S x → OneOf ns (numberOf x)) → OneOf ns (replyNumber (replyOf given))
+numbers {replyOf = replyOf} {given = given} t ns zero tests stops = by-reply (replyOf given) refl
+  where
+    by-reply : (y : Reply) → replyOf given ≡ y → OneOf ns (replyNumber y)
+    by-reply (Done used) e = zero
+    by-reply Already e = zero
+    by-reply NotDue e = zero
+    by-reply (Refused x) e =
+        (elim (ltb (numberOf x) 6) as (λ u. ltb (numberOf x) 6 ≡ u → OneOf ns (numberOf x)) [
+          | true ↦ λ p. first-among (λ r. OneOf ns (numberOf r)) (t .tests x (ltb-true _ _ p) .0 (ap replyNumber e)) tests
+          | false ↦ λ p. stops x (t .stops x (ltb-false _ _ p) .0 (ap replyNumber e) .1)
+        ]) refl
+
+-- the words for nothing to do
+data Idle : Reply → Type 0 where
+  already : Idle Already
+  not-due : Idle NotDue
+
+idle-number : {y : Reply} → Idle y → replyNumber y ≡ 0
+idle-number already = refl
+idle-number not-due = refl
+
+idle-no-refusal : {y : Reply} → Idle y → (r : Refusal) → Refused r ≡ y → ⊥
+idle-no-refusal already r e = already-apart (sym e)
+idle-no-refusal not-due r e = not-due-apart (sym e)
+
+idle-not-done : {y : Reply} → Idle y → (n : ℕ) → Done n ≡ y → ⊥
+idle-not-done already n e = let z : _≡_ {A = ℕ} 0 1 = cc in omega arith
+idle-not-done not-due n e = let z : _≡_ {A = ℕ} 0 1 = cc in omega arith
+
+module _ {B : Type 0} (replyOf : B → Reply) (idly : Reply → B) where
+  -- an outcome of the rules' answer: Done where they give something, and where they refuse nothing changes
+  record Tells {C : Type 0} (outcome : Answer C → B) : Type 0 where
+    used : List ℕ → ℕ
+    gives : (c : C) (rest : List ℕ) → replyOf (outcome (done c rest)) ≡ Done (used rest)
+    refuses : (r : Refusal) → outcome (refused r) ≡ idly (Refused r)
+
+  -- what comes after the tests
+  record Goes (y : Reply) (P : Type 0) (S : Refusal → Type 0) (go : B) : Type 0 where
+    stops : (x : Refusal) → (replyNumber (replyOf go) ≡ numberOf x) ↔ S x
+    idles : (replyOf go ≡ y) ↔ P
+    keeps : (z : Reply) → NotDone z → replyOf go ≡ z → go ≡ idly z
+
+module _ {B : Type 0} (replyOf : B → Reply) (idly : Reply → B) (says : (z : Reply) → replyOf (idly z) ≡ z) {y : Reply} (word : Idle y) {P : Type 0} {S : Refusal → Type 0} where
+  -- there is nothing to do
+  rests : P → ((x : Refusal) → S x → ⊥) → Goes replyOf idly y P S (idly y)
+  rests p never =
+      record {
+        stops = λ x. ((λ e. absurd (not-zero x (sym (ap replyNumber (says y) ∙ idle-number word) ∙ e))), (λ h. absurd (never x h)));
+        idles = ((λ e. p), (λ q. says y));
+        keeps = λ z unkept e. ap idly (sym (says y) ∙ e);
+      }
+
+  -- the rules are asked
+  asks : {C : Type 0} {outcome : Answer C → B} → Tells replyOf idly outcome → (P → ⊥) → (a : Answer C) → ((x : Refusal) → (a ≡ refused x) ↔ S x) → Goes replyOf idly y P S (outcome a)
+  asks {C = C} {outcome = outcome} t otherwise a s =
+      record {
+        stops = λ x. ((λ e. s x .0 (told x a .0 e)), (λ h. told x a .1 (s x .1 h)));
+        idles = ((λ e. absurd (never a e)), (λ p. absurd (otherwise p)));
+        keeps = keeps a;
+      }
+    where
+      reply : (r : Refusal) → replyOf (outcome (refused r)) ≡ Refused r
+      reply r = ap replyOf (t .refuses r) ∙ says (Refused r)
+
+      never : (a : Answer C) → replyOf (outcome a) ≡ y → ⊥
+      never (refused r) e = idle-no-refusal word r (sym (reply r) ∙ e)
+      never (done c rest) e = idle-not-done word (t .used rest) (sym (t .gives c rest) ∙ e)
+
+      told : (x : Refusal) (a : Answer C) → (replyNumber (replyOf (outcome a)) ≡ numberOf x) ↔ (a ≡ refused x)
+      told x (refused r) = (
+        (λ e. ap refused (same-number r x (sym (ap replyNumber (reply r)) ∙ e))),
+        (λ e. let z : r ≡ x = cc in ap replyNumber (reply r) ∙ ap numberOf z),
+      )
+      told x (done c rest) = (
+        (λ e. absurd (not-zero x (sym (ap replyNumber (t .gives c rest)) ∙ e))),
+        (λ e. let z : _≡_ {A = ℕ} 0 1 = cc in absurd (omega arith)),
+      )
+
+      keeps : (a : Answer C) (z : Reply) → NotDone z → replyOf (outcome a) ≡ z → outcome a ≡ idly z
+      keeps (refused r) z unkept e = t .refuses r ∙ ap idly (sym (reply r) ∙ e)
+      keeps (done c rest) z unkept e = absurd (subst NotDone (sym e ∙ t .gives c rest) unkept)
+
+  -- and so with the tests before it
+  tabled : (ts : List (Bool × Refusal)) → Among (λ r. numberOf r < 6) ts → ((x : Refusal) → S x → 6 ≤ numberOf x) → {go : B} → Goes replyOf idly y P S go
+      → Tabled replyOf idly y ts P S (firstOf ts (λ r. idly (Refused r)) go)
+  tabled ts low late {go = go} g =
+      let refuse : Refusal → B = λ r. idly (Refused r) in
+      let number : B → ℕ = λ b. replyNumber (replyOf b) in
+      let says-number : (r : Refusal) → number (refuse r) ≡ numberOf r = λ r. ap replyNumber (says (Refused r)) in
+      let after : (replyOf (firstOf ts refuse go) ≡ y) ↔ (Passed ts × (replyOf go ≡ y)) = after-tests replyOf Refused refuse (λ r. says (Refused r)) go y ts (all-among (idle-no-refusal word) ts) in
+      record {
+        tests = λ x early. by-tests number numberOf refuse says-number go same-number x (λ e. absurd (omega (arith, early, late x (g .stops x .0 e)))) ts;
+        stops = λ x high.
+            let t = after-tests number numberOf refuse says-number go (numberOf x) ts (among-also (λ r l e. omega arith) ts low) in
+            ((λ e. (t .0 e .0, g .stops x .0 (t .0 e .1))), (λ h. t .1 (h .0, g .stops x .1 (h .1))));
+        idles = ((λ e. (after .0 e .0, g .idles .0 (after .0 e .1))), (λ h. after .1 (h .0, g .idles .1 (h .1))));
+        keeps = λ z unkept. first-cases (λ b. replyOf b ≡ z → b ≡ idly z) ts refuse go (λ r e. ap idly (sym (says (Refused r)) ∙ e)) (λ p. g .keeps z unkept);
+      }
+
+-- ---- timers
+abbrev noPlace : Option ℕ → Bool
+noPlace none = true
+noPlace (some i) = false
+
+no-later : (o : Option ℕ) → noPlace (D.later o) ≡ noPlace o
+no-later none = refl
+no-later (some i) = refl
+
+first-over : {A : Type 0} (address : Address A) (wait now : ℕ) (ts : List (Timer A)) → noPlace (D.firstOver address wait now ts) ≡ noneOver wait now ts
+unfolding D.firstOver
+first-over address wait now [] = refl
+first-over address wait now (t ∷ ts) =
+    elim (D.isOver wait now (t .since)) as (λ u. noPlace (elim u [ true ↦ some 0 | false ↦ D.later (D.firstOver address wait now ts) ]) ≡ (not u && noneOver wait now ts)) [
+      | true ↦ refl
+      | false ↦ no-later (D.firstOver address wait now ts) ∙ first-over address wait now ts
+    ]
+
+unlike : {C : Type 0} → true ≡ false → C
+unlike e = let z : _≡_ {A = ℕ} 0 1 = cc in absurd (omega arith)
+
+-- where a test lets the rules go on, what they give is what stops them
+lets : {u v : Bool} {Q R : Type 0} → u ≡ v → Q ↔ R → Q ↔ ((u ≡ v) × R)
+lets e h = ((λ q. (e, h .0 q)), (λ f. h .1 (f .1)))
+
+-- ---- the calls
+abbrev pub replyOf : {A : Type 0} → calls.Outcome A → Reply
+replyOf o = o .reply
+
+abbrev pub stepReply : {A : Type 0} → calls.StepOutcome A → Reply
+stepReply o = o .outcome .reply
+
+module _ {A : Type 0} (address : Address A) (s : Stored A) where
+  -- nothing changes
+  abbrev pub idly : Reply → calls.Outcome A
+  idly z = calls.unchanged z s
+
+  abbrev pub stepIdly : Wait A → Reply → calls.StepOutcome A
+  stepIdly w z = record { outcome = calls.unchanged z s; wait = w }
+
+  kept-tells : (ds : List ℕ) → Tells replyOf idly (calls.kept address s ds)
+  kept-tells ds = record { used = λ rest. length ds - length rest; gives = λ e rest. refl; refuses = λ r. refl }
+
+  kept-step-tells : (w : Wait A) (ds : List ℕ) → Tells stepReply (stepIdly w) (calls.keptStep address s w ds)
+  kept-step-tells w ds = record { used = λ rest. length ds - length rest; gives = λ e rest. refl; refuses = λ r. refl }
+
+  -- adding a peer: it is listed, or what stops an add
+  pub add-table : (a : A) (n : ℕ) (ds : List ℕ)
+      → Tabled replyOf idly Already (calls.addTests address s a)
+      (lists address a (loaded s) ≡ true)
+      (λ x. (lists address a (loaded s) ≡ false) × FirstFails x (addStops (loaded s) ds))
+      (calls.addPeer address s a n ds)
+  unfolding calls.addPeer
+  add-table a n ds =
+      tabled replyOf idly (λ z. refl) already (calls.addTests address s a) (omega arith) (λ x h. first-among (λ r. 6 ≤ numberOf r) (h .1) (omega arith)) (listed (lists address a (loaded s)))
+    where
+      listed : (u : Bool) → Goes replyOf idly Already (u ≡ true) (λ x. (u ≡ false) × FirstFails x (addStops (loaded s) ds)) (calls.orAlready u s (calls.kept address s ds (calls.joins address a n (loaded s) ds)))
+      listed true = rests replyOf idly (λ z. refl) already refl (λ x h. unlike (h .0))
+      listed false = asks replyOf idly (λ z. refl) already (kept-tells ds) (λ e. unlike (sym e)) (calls.joins address a n (loaded s) ds) (λ x. lets refl (exactly x (joins-refuses address a n (loaded s) ds)))
+
+  -- the message: it is never without something to do
+  pub message-table : (action : Action A) (gs : List (Gossip A)) (ds : List ℕ) (lent : Room)
+      → Tabled replyOf idly NotDue (calls.messageTests address s action gs lent) ⊥ (λ x. MessageStops address gs (loaded s) ds x action) (calls.message address s action gs ds lent)
+  unfolding calls.message
+  message-table action gs ds lent =
+      tabled replyOf idly (λ z. refl) not-due (calls.messageTests address s action gs lent) (omega arith) (λ x h. message-among (λ r. 6 ≤ numberOf r) (omega arith) (omega arith) (omega arith) (omega arith) h)
+      (asks replyOf idly (λ z. refl) not-due (kept-tells ds) (λ e. e) (handle address action gs (loaded s) ds) (λ x. handle-exactly address x action gs (loaded s) ds))
+
+  -- the detector step: it isn't due, or what stops a step of that state
+  pub step-table : (w : Wait A) (now : ℕ) (ds : List ℕ) (lent : Room)
+      → Tabled stepReply (stepIdly w) NotDue (calls.stepTests address s w lent)
+      (D.due (s .settings) w now ≡ false)
+      (λ x. (D.due (s .settings) w now ≡ true) × FirstFails x (stepStops address (w .state) (loaded s) ds))
+      (calls.detect address s w now ds lent)
+  unfolding calls.detect
+  step-table w now ds lent =
+      tabled stepReply (stepIdly w) (λ z. refl) not-due (calls.stepTests address s w lent) (omega arith)
+      (λ x h. first-among (λ r. 6 ≤ numberOf r) (h .1) (step-among address (λ r. 6 ≤ numberOf r) (omega arith) (omega arith) (omega arith) (w .state) (loaded s) ds))
+      (due (D.due (s .settings) w now))
+    where
+      due : (u : Bool) → Goes stepReply (stepIdly w) NotDue (u ≡ false) (λ x. (u ≡ true) × FirstFails x (stepStops address (w .state) (loaded s) ds))
+          (calls.whenDue u s w (calls.keptStep address s w ds (D.step address (w .state) now (loaded s) ds)))
+      due true = asks stepReply (stepIdly w) (λ z. refl) not-due (kept-step-tells w ds) unlike (D.step address (w .state) now (loaded s) ds) (λ x. lets refl (exactly x (step-refuses address (w .state) now (loaded s) ds)))
+      due false = rests stepReply (stepIdly w) (λ z. refl) not-due refl (λ x h. unlike (sym (h .0)))
+
+  -- the timer call: no timer is over, or what stops its end
+  pub timer-table : (now : ℕ) (lent : Room) → let none-over = noneOver (s .settings .«suspect_timeout») now (loaded s .timers) in
+      Tabled replyOf idly NotDue (calls.timerTests address s lent) (none-over ≡ true) (λ x. (none-over ≡ false) × FirstFails x (endStops (loaded s))) (calls.endTimer address s now lent)
+  unfolding calls.endTimer
+  timer-table now lent =
+      tabled replyOf idly (λ z. refl) not-due (calls.timerTests address s lent) (omega arith) (λ x h. first-among (λ r. 6 ≤ numberOf r) (h .1) (omega arith))
+      (ended (D.firstOver address (s .settings .«suspect_timeout») now (loaded s .timers)) (first-over address (s .settings .«suspect_timeout») now (loaded s .timers)))
+    where
+      ended : (o : Option ℕ) {u : Bool} → noPlace o ≡ u → Goes replyOf idly NotDue (u ≡ true) (λ x. (u ≡ false) × FirstFails x (endStops (loaded s))) (calls.endsAt address s o)
+      ended none e = rests replyOf idly (λ z. refl) not-due (sym e) (λ x h. unlike (e ∙ h .0))
+      ended (some i) e = asks replyOf idly (λ z. refl) not-due (kept-tells []) (λ f. unlike (sym (e ∙ f))) (calls.reports address (D.endAt address i (loaded s) [])) (λ x. lets (sym e) (exactly x (end-refuses address i (loaded s) [])))

@@ -1,0 +1,163 @@
+-- WHAT STOPS THE RULES. The table's refusals 6 to 10, once a call's tests are passed: for each rule the tests that it makes on its way, in its order. For any type of address.
+-- Assumes nothing.
+use mathlib.Core.Path.{_≡_}
+use mathlib.Core.Logic.{_⊎_}
+use mathlib.Core.Bool.{Bool, true, false, not, _&&_, _||_}
+use mathlib.Core.List.{List, [], _∷_}
+use mathlib.Core.Option.{Option, none, some}
+use Prim.Native.Nat.{ℕ, _+_, max, _≤_, _<_}
+use lib.ListN.{length, getD, take}
+use lib.Dec.{leb, ltb}
+use Rattle.model.specs.declared.Refusal.{Refusal}
+use Rattle.model.specs.declared.Refusal.the-variants.{NumberEnd, ListFull, DrawsShort, HeapFull, TimersFull}
+use Rattle.model.specs.Rows.{pick, every, isEmpty}
+use Rattle.model.specs.Bounds.{list-places, heap-places, timer-places, last-number}
+use Rattle.model.specs.Answers.{done}
+use Rattle.model.specs.Words.{Address, Event, Nothing, Joined, Recovered, Suspected, Deceased, Gossip, nothing, Timer, Action, Ping, WaitState, SendingPing, WaitingForPingAck, SendingPingReq, WaitingForPingReqAck, Declaring}
+use Rattle.model.specs.Node.{Node, Out, lists, numbered, stateOf, heldDeath}
+use Rattle.model.specs.Handler.{believed, gossip}
+use Rattle.model.specs.Detector.{isOver}
+use Rattle.promises.specs.Firsts.{FirstFails}
+use Rattle.promises.specs.Reads.{pickReads}
+
+-- which heap an event goes to
+pub data Heap : Type 0 where
+  alive deceased : Heap
+
+-- what a gossip item, or a Ping's admission, asks for
+pub record Wants : Type 0 where
+  -- 6: one more than a number
+  pub plus-one : Option ℕ
+  -- 7, 8: that an address is added, at a place that is drawn
+  pub adds : Bool
+  -- 9: that an event is pushed, and to which heap
+  pub pushes : Option Heap
+
+abbrev pub nothingWanted : Wants
+nothingWanted = record { plus-one = none; adds = false; pushes = none }
+
+-- "D + 1 or 0"
+abbrev pub plusOneOr0 : Option ℕ → ℕ
+plusOneOr0 none = 0
+plusOneOr0 (some d) = d + 1
+
+-- the number is 2^64 − 1
+abbrev pub atEnd : Option ℕ → Bool
+atEnd none = false
+atEnd (some n) = leb last-number n
+
+-- an event is pushed if a condition holds
+abbrev pub pushIf : Bool → Heap → Option Heap
+pushIf u heap = pick u (some heap) none
+
+-- and nothing else is asked for
+abbrev pub pushOnlyIf : Bool → Heap → Wants
+pushOnlyIf u heap = record { plus-one = none; adds = false; pushes = pushIf u heap }
+
+module _ {A : Type 0} where
+  abbrev pub listFull : Node A → Bool
+  listFull s = leb list-places (length (s .members .table))
+
+  abbrev pub heapFull : Heap → Node A → Bool
+  heapFull alive s = leb heap-places (length (s .alive))
+  heapFull deceased s = leb heap-places (length (s .deceased))
+
+  abbrev pub noRoom : Option Heap → Node A → Bool
+  noRoom none s = false
+  noRoom (some heap) s = heapFull heap s
+
+  abbrev pub timersFull : Node A → Bool
+  timersFull s = leb timer-places (length (s .timers))
+
+  -- adding a peer that is not listed: 7, 8
+  abbrev pub addStops : Node A → List ℕ → List (Bool × Refusal)
+  addStops s ds = (listFull s, ListFull) ∷ (isEmpty ds, DrawsShort) ∷ []
+
+  -- "Within one gossip item or ping admission: 6, 7, 8, 9."
+  abbrev pub wantsStops : Wants → Node A → List ℕ → List (Bool × Refusal)
+  wantsStops w s ds =
+      (atEnd (w .plus-one), NumberEnd)
+      ∷ (w .adds && listFull s, ListFull)
+      ∷ (w .adds && isEmpty ds, DrawsShort)
+      ∷ (noRoom (w .pushes) s, HeapFull)
+      ∷ []
+
+  -- an ended timer, which emits Deceased: 9
+  abbrev pub endStops : Node A → List (Bool × Refusal)
+  endStops s = (heapFull deceased s, HeapFull) ∷ []
+
+module _ {A : Type 0} (address : Address A) where
+  -- what a gossip item asks for, by the handler's rules
+  abbrev pub itemWants : Event A → Node A → Wants
+  itemWants Nothing s = nothingWanted
+  itemWants (Joined f a n) s =
+      let d = heldDeath address a s in
+      let absent = not (lists address a s) in
+      record { plus-one = d; adds = absent; pushes = pushIf (absent || ltb (numbered address a s) (max (plusOneOr0 d) n)) alive }
+  itemWants (Recovered f a n) s = pushOnlyIf (lists address a s && ltb (numbered address a s) n) alive
+  itemWants (Suspected f a n) s =
+      pick (address .same (s .own) a)
+      (record { plus-one = some n; adds = false; pushes = some alive })
+      (pushOnlyIf (lists address a s && believed address (stateOf address a s) (numbered address a s) n) alive)
+  itemWants (Deceased f a n) s = pushOnlyIf (lists address a s && leb (numbered address a s) n) deceased
+
+  -- what a Ping's sender asks for: nothing if it is listed
+  abbrev pub admitWants : A → Node A → Wants
+  admitWants a s = pick (lists address a s) nothingWanted (record { plus-one = heldDeath address a s; adds = true; pushes = some alive })
+
+  abbrev pub itemStops : Event A → Node A → List ℕ → List (Bool × Refusal)
+  itemStops e s ds = wantsStops (itemWants e s) s ds
+
+  abbrev pub admitStops : A → Node A → List ℕ → List (Bool × Refusal)
+  admitStops a s ds = wantsStops (admitWants a s) s ds
+
+  -- how many draws the pick of a ping's target reads, and that of the group for a suspect
+  abbrev pub pingReads : Node A → List ℕ → ℕ
+  pingReads s ds = pickReads (address .same) (address .blank) (s .own) none 1 (s .members) ds
+
+  abbrev pub groupReads : A → Node A → List ℕ → ℕ
+  groupReads a s ds = pickReads (address .same) (address .blank) (s .own) (some a) (s .settings .«ping_req_group_size») (s .members) ds
+
+  -- a step that is due, by the state of the wait record: a ping's pick 8; the suspicion's event 9, then the group's pick 8; a new declaration 10
+  abbrev pub stepStops : WaitState A → Node A → List ℕ → List (Bool × Refusal)
+  stepStops SendingPing s ds = (ltb (length ds) (pingReads s ds), DrawsShort) ∷ []
+  stepStops (WaitingForPingAck a n) s ds = []
+  stepStops (SendingPingReq a n) s ds = (heapFull alive s, HeapFull) ∷ (ltb (length ds) (groupReads a s ds), DrawsShort) ∷ []
+  stepStops (WaitingForPingReqAck a n) s ds = []
+  stepStops (Declaring a n) s ds = (timersFull s, TimersFull) ∷ []
+
+-- ---- the message
+module _ {A : Type 0} (address : Address A) (gs : List (Gossip A)) (s : Node A) (ds : List ℕ) (x : Refusal) where
+  -- the rules get through the records before record k, counted from 0, and this one stops on the node and with the draws that they leave
+  pub record StopsAt (k : ℕ) : Type 0 where
+    pub there : k < length gs
+    pub so-far : Out A
+    pub left : List ℕ
+    pub through : gossip address (take k gs) s ds ≡ done so-far left
+    pub stops : FirstFails x (itemStops address (getD gs k nothing .event) (so-far .node) left)
+
+  -- a message stops at a record, or, once through all of them, at the admission of a Ping's sender
+  pub data MessageStops : Action A → Type 0 where
+    at-record : {action : Action A} (k : ℕ) → StopsAt k → MessageStops action
+    at-admission : {from : A} {by : Option A} (so-far : Out A) (left : List ℕ)
+        → gossip address gs s ds ≡ done so-far left → FirstFails x (admitStops address from (so-far .node) left) → MessageStops (Ping from by)
+
+-- ---- the step and the timer call, in plain words
+module _ {A : Type 0} where
+  -- "a declaration is to start and 16 are running"
+  abbrev pub StepTimersFull : WaitState A → Node A → Type 0
+  StepTimersFull st s = (a : A) × (n : ℕ) × (st ≡ Declaring a n) × (timer-places ≤ length (s .timers))
+
+  -- "an event is to be pushed to a full heap"
+  abbrev pub StepHeapFull : WaitState A → Node A → Type 0
+  StepHeapFull st s = (a : A) × (n : ℕ) × (st ≡ SendingPingReq a n) × (heap-places ≤ length (s .alive))
+
+  -- "a draw is needed past the end of the draws": by the ping's pick, or by the group's if the alive heap has room
+  abbrev pub StepDrawsShort : Address A → WaitState A → Node A → List ℕ → Type 0
+  StepDrawsShort address st s ds =
+      ((st ≡ SendingPing) × (length ds < pingReads address s ds))
+      ⊎ ((a : A) × (n : ℕ) × (st ≡ SendingPingReq a n) × (length (s .alive) < heap-places) × (length ds < groupReads address a s ds))
+
+  -- no running timer is over
+  abbrev pub noneOver : ℕ → ℕ → List (Timer A) → Bool
+  noneOver wait now ts = every (λ t. not (isOver wait now (t .since))) ts
