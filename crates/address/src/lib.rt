@@ -1,7 +1,8 @@
 // An address: ip × 65536 + port. The only crate that looks inside one.
 ghost use mathlib.Core.Path.{_≡_};
 ghost use Prim.Native.Nat.{_≤_};
-ghost use Rattle.model.specs.IPv4.{ipv4, digits as digitsOf, textLength};
+ghost use Rattle.address.specs.IPv4.{digits as digitsOf};
+ghost use Rattle.address.specs.Here.{here};
 
 pub type Address = u64;
 
@@ -17,21 +18,21 @@ impl Ipv4 {
 
 // Are two addresses the same?
 pub fn same(a: Address, b: Address) -> bool
-    ensures { λ r. ⌜ r ≡ ipv4 .same a b ⌝ }
+    ensures { λ r. ⌜ r ≡ here .same a b ⌝ }
 {
     a == b
 }
 
 // The address of an unused place.
 pub fn blank() -> Address
-    ensures { λ r. ⌜ r ≡ ipv4 .blank ⌝ }
+    ensures { λ r. ⌜ r ≡ here .blank ⌝ }
 {
     0
 }
 
 // Does an address have a text?
 pub fn in_range(a: Address) -> bool
-    ensures { λ r. ⌜ r ≡ ipv4 .valid a ⌝ }
+    ensures { λ r. ⌜ r ≡ here .valid a ⌝ }
 {
     a < Ipv4::END
 }
@@ -57,7 +58,7 @@ fn digits(n: u64) -> u64
 
 // The length of the text a.b.c.d:port: three dots and a colon stand between the five numbers.
 pub fn text_len(a: Address) -> u64
-    ensures { λ r. ⌜ (r ≡ ipv4 .chars a) × (9 ≤ r) × (r ≤ 21) ⌝ }
+    ensures { λ r. ⌜ (r ≡ here .chars a) × (9 ≤ r) × (r ≤ 21) ⌝ }
 {
     let first = digits(a / 1099511627776 % 256);
     let second = digits(a / 4294967296 % 256);

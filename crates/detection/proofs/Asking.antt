@@ -2,19 +2,19 @@
 -- Assumes nothing.
 use mathlib.Core.Path.{_≡_, refl, ap, sym, _∙_}
 use mathlib.Core.List.{List, [], _∷_, _++_, map}
-use Prim.Native.Nat.{ℕ, _+_, _-_, _*_, _≤_, _<_}
+use Prim.Native.Nat.{ℕ, _+_, _*_, _≤_, _<_}
 use native.Mathlib.Omega.{arith}
 use native.Mathlib.Numerals.{add-one}
 use lib.ListN.{length, getD, take, drop, length-append, drop-of-length-le}
 use lib.Seq.{drop-cons, getD-take, length-take-le}
 use Rattle.model.specs.Rows.{padTo}
-use Rattle.model.specs.IPv4.{ipv4}
+use Rattle.address.specs.Here.{Addr, here}
 use Rattle.model.specs.Words as W
 use Rattle.model.specs.Node as M
 use Rattle.model.specs.Detector as D
 use Rattle.model.specs.Calls.{packed}
-use Rattle.model.specs.Good.{Good}
-use Rattle.model.specs.Keeps.{spread-keeps}
+use Rattle.laws_node.specs.Good.{Good}
+use Rattle.laws_rules.specs.Keeps.{spread-keeps}
 use Rattle.types.specs.declared.Action.the-variants.{PingReq}
 use Rattle.types.specs.Views.{fromGossip, noGossip}
 use Rattle.node.specs.declared.Node.{Node}
@@ -28,10 +28,10 @@ use Rattle.detection.proofs.Plain.{view-pack}
 use Rattle.detection.proofs.Posting.{post-is, mail-packed, row-taken}
 
 -- i of the group were asked
-pub record Left (suspect : ℕ) (row : List ℕ) (count : ℕ) (n : Node) (ahead : Node) (mail : Mail) (i : ℕ) : Type 0 where
-  pub s : M.Node ℕ
-  pub ms : List (W.Message ℕ)
-  pub good : Good ipv4 s
+pub record Left (suspect : Addr) (row : List Addr) (count : ℕ) (n : Node) (ahead : Node) (mail : Mail) (i : ℕ) : Type 0 where
+  pub s : M.Node Addr
+  pub ms : List (W.Message Addr)
+  pub good : Good here s
   pub node : ahead ≡ packNode s
   pub mail-is : mail ≡ mailOf ms
   pub sent : length ms ≡ i
@@ -39,9 +39,9 @@ pub record Left (suspect : ℕ) (row : List ℕ) (count : ℕ) (n : Node) (ahead
   pub within : i ≤ count
   pub few : count ≤ 4
   pub long : count ≤ length row
-  pub rest : D.askEach ipv4 suspect (drop i (take count row)) s ms ≡ D.askEach ipv4 suspect (take count row) (viewNode n) []
+  pub rest : D.askEach here suspect (drop i (take count row)) s ms ≡ D.askEach here suspect (take count row) (viewNode n) []
 
-module _ (suspect : ℕ) (row : List ℕ) (count : ℕ) (n : Node) where
+module _ (suspect : Addr) (row : List Addr) (count : ℕ) (n : Node) where
   pub left-start : (mail : Mail) → Ready n → mail ≡ mailOf [] → count ≤ 4 → count ≤ length row → Left suspect row count n n mail 0
   left-start mail r e f l =
       record {
@@ -70,20 +70,20 @@ module _ (suspect : ℕ) (row : List ℕ) (count : ℕ) (n : Node) where
     left-mail = rw (l .mail-is) (mail-packed (l .ms) (omega (arith, l .sent, l .within, l .few)) (omega (arith, l .written, l .within, l .few)))
 
     -- all were asked
-    pub left-stop : count ≤ i → _≡_ {A = Asked} (record { node = ahead; mail = mail }) (askedOf (D.askEach ipv4 suspect (take count row) (viewNode n) []))
+    pub left-stop : count ≤ i → _≡_ {A = Asked} (record { node = ahead; mail = mail }) (askedOf (D.askEach here suspect (take count row) (viewNode n) []))
     left-stop h =
         let none-left : drop i (take count row) ≡ [] = drop-of-length-le (take count row) {i = i} (omega (arith, length-take-le count row (l .long), h)) in
         (λ j. record { node = l .node j; mail = l .mail-is j })
-        ∙ ap (λ (x : List ℕ). askedOf (D.askEach ipv4 suspect x (l .s) (l .ms))) (sym none-left)
+        ∙ ap (λ (x : List Addr). askedOf (D.askEach here suspect x (l .s) (l .ms))) (sym none-left)
         ∙ ap askedOf (l .rest)
 
     -- the next one is asked
-    module _ (h : i < count) (k : Asked) (e : k ≡ askedOne ahead mail (getD row i 0) suspect) (b : k .mail .written ≤ mail .written + 58) where
-      abbrev c : M.Spread ℕ
-      c = M.spread ipv4 (l .s)
+    module _ (h : i < count) (k : Asked) (e : k ≡ askedOne ahead mail (getD row i (here .blank)) suspect) (b : k .mail .written ≤ mail .written + 58) where
+      abbrev c : M.Spread Addr
+      c = M.spread here (l .s)
 
-      abbrev letter : W.Message ℕ
-      letter = record { target = getD row i 0; action = W.PingReq (l .s .own) suspect; gossip = c .gossip }
+      abbrev letter : W.Message Addr
+      letter = record { target = getD row i (here .blank); action = W.PingReq (l .s .own) suspect; gossip = c .gossip }
 
       seen : viewNode ahead ≡ l .s
       seen = ap viewNode (l .node) ∙ view-pack (l .s) (l .good)
@@ -96,8 +96,8 @@ module _ (suspect : ℕ) (row : List ℕ) (count : ℕ) (n : Node) where
       asked-is =
           e
           ∙ (λ j. record {
-            node = packNode (M.spread ipv4 (seen j) .node);
-            mail = posted mail (getD row i 0) (PingReq (own-is j) suspect) (padTo 64 noGossip (map fromGossip (M.spread ipv4 (seen j) .gossip))) (length (M.spread ipv4 (seen j) .gossip));
+            node = packNode (M.spread here (seen j) .node);
+            mail = posted mail (getD row i (here .blank)) (PingReq (own-is j) suspect) (padTo 64 noGossip (map fromGossip (M.spread here (seen j) .gossip))) (length (M.spread here (seen j) .gossip));
           })
           ∙ (λ j. record {
             node = packNode (c .node);
@@ -108,19 +108,19 @@ module _ (suspect : ℕ) (row : List ℕ) (count : ℕ) (n : Node) where
       unfolding mailOf
       next-written = omega (arith, ap (λ (x : Asked). x .mail .written) asked-is, b, left-bounds .1)
 
-      next-rest : D.askEach ipv4 suspect (drop (i + 1) (take count row)) (c .node) (l .ms ++ (letter ∷ [])) ≡ D.askEach ipv4 suspect (take count row) (viewNode n) []
+      next-rest : D.askEach here suspect (drop (i + 1) (take count row)) (c .node) (l .ms ++ (letter ∷ [])) ≡ D.askEach here suspect (take count row) (viewNode n) []
       next-rest =
-          let q : drop i (take count row) ≡ getD row i 0 ∷ drop (i + 1) (take count row) =
-          drop-cons (take count row) i 0 (omega (arith, length-take-le count row (l .long), h))
-          ∙ (λ j. getD-take count row i 0 h j ∷ drop (sym (add-one i) j) (take count row)) in
-          sym (ap (λ (x : List ℕ). D.askEach ipv4 suspect x (l .s) (l .ms)) q) ∙ l .rest
+          let q : drop i (take count row) ≡ getD row i (here .blank) ∷ drop (i + 1) (take count row) =
+          drop-cons (take count row) i (here .blank) (omega (arith, length-take-le count row (l .long), h))
+          ∙ (λ j. getD-take count row i (here .blank) h j ∷ drop (sym (add-one i) j) (take count row)) in
+          sym (ap (λ (x : List Addr). D.askEach here suspect x (l .s) (l .ms)) q) ∙ l .rest
 
       pub left-next : Left suspect row count n (k .node) (k .mail) (i + 1)
       left-next =
           record {
             s = c .node;
             ms = l .ms ++ (letter ∷ []);
-            good = spread-keeps ipv4 (l .s) (l .good) .good;
+            good = spread-keeps here (l .s) (l .good) .good;
             node = ap (λ (x : Asked). x .node) asked-is;
             mail-is = ap (λ (x : Asked). x .mail) asked-is;
             sent = omega (arith, length-append (l .ms) (letter ∷ []), l .sent);

@@ -6,12 +6,12 @@ use Prim.Native.Nat.{ℕ}
 use lib.ListN.{replicate}
 use Rattle.model.specs.declared.Reply.{Reply}
 use Rattle.model.specs.declared.Reply.the-variants.{Done}
-use Rattle.model.specs.IPv4.{ipv4}
+use Rattle.address.specs.Here.{Addr, here}
 use Rattle.model.specs.Words as W
 use Rattle.model.specs.Node as M
 use Rattle.model.specs.Calls.{unchanged}
-use Rattle.model.specs.Good.{Good}
-use Rattle.model.specs.Packing as rows
+use Rattle.laws_node.specs.Good.{Good}
+use Rattle.laws.specs.Packing as rows
 use Rattle.types.specs.Views.{noGossip}
 use Rattle.heap.specs.Views as heaps
 use Rattle.member.specs.Packing as packing
@@ -40,7 +40,7 @@ unfolding endedOf
 plain-end reply n = λ i. record { answer = sym (unchanged-is reply n) i; events = replicate 1 noGossip; reported = 0 }
 
 -- a kept step that sends nothing
-pub kept-step : (used : ℕ) (s : M.Node ℕ) (n : Node) (w : W.Wait ℕ) (v : Wait) → n ≡ packNode s → v ≡ fromWait w
+pub kept-step : (used : ℕ) (s : M.Node Addr) (n : Node) (w : W.Wait Addr) (v : Wait) → n ≡ packNode s → v ≡ fromWait w
     → plainStep (Done used) n v ≡ steppedOf (keptOf used (record { effect = record { node = s; messages = []; events = [] }; wait = w }))
 unfolding steppedOf
 kept-step used s n w v e f =
@@ -54,11 +54,11 @@ kept-step used s n w v e f =
     }
 
 -- what is packed is read back
-pub view-pack : (s : M.Node ℕ) → Good ipv4 s → viewNode (packNode s) ≡ s
+pub view-pack : (s : M.Node Addr) → Good here s → viewNode (packNode s) ≡ s
 unfolding viewNode packNode
 view-pack s g =
     let t = packing.view-pack (s .members) (g .whole .long) in
-    let a = heaps.view-pack (s .alive) in
-    let d = heaps.view-pack (s .deceased) in
+    let a = heaps.view-pack (s .disseminator .alive) in
+    let d = heaps.view-pack (s .disseminator .deceased) in
     let m = rows.view-pack toTimer fromTimer (λ x. refl) 16 noTimer (s .timers) in
-    λ i. record { settings = s .settings; own = s .own; members = t i; alive = a i; deceased = d i; timers = m i }
+    λ i. record { settings = s .settings; own = s .own; members = t i; disseminator = record { alive = a i; deceased = d i }; timers = m i }

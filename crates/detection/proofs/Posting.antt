@@ -7,10 +7,11 @@ use native.Mathlib.Omega.{arith}
 use native.Mathlib.Numerals.{add-one}
 use lib.ListN.{length, getD, set, take, replicate, length-append, length-map}
 use lib.Seq.{take-at, take-suc, length-take-le}
+use Rattle.address.specs.Here.{Addr}
 use Rattle.model.specs.Rows.{padTo}
-use Rattle.model.specs.Pad.{length-padTo}
-use Rattle.model.specs.Padded.{pad-snoc}
-use Rattle.model.specs.Packing.{PackedRow, packed-pack, used-length}
+use Rattle.laws.specs.Pad.{length-padTo}
+use Rattle.laws.specs.Padded.{pad-snoc}
+use Rattle.laws.specs.Packing.{PackedRow, packed-pack, used-length}
 use Rattle.model.specs.Words as W
 use Rattle.model.specs.Calls.{packed}
 use Rattle.types.specs.declared.Gossip.{Gossip}
@@ -39,12 +40,12 @@ map-append f [] m = refl
 map-append f (b ∷ l) m = ap (λ (x : List _). f b ∷ x) (map-append f l m)
 
 -- the gossip of one more message stands behind the others'
-pub packed-more : (ms : List (W.Message ℕ)) (x : W.Message ℕ) → packed (ms ++ (x ∷ [])) ≡ packed ms ++ x .gossip
+pub packed-more : (ms : List (W.Message Addr)) (x : W.Message Addr) → packed (ms ++ (x ∷ [])) ≡ packed ms ++ x .gossip
 packed-more [] x = append-nil (x .gossip)
-packed-more (m ∷ ms) x = ap (λ (l : List (W.Gossip ℕ)). m .gossip ++ l) (packed-more ms x) ∙ sym (append-assoc (m .gossip) (packed ms) (x .gossip))
+packed-more (m ∷ ms) x = ap (λ (l : List (W.Gossip Addr)). m .gossip ++ l) (packed-more ms x) ∙ sym (append-assoc (m .gossip) (packed ms) (x .gossip))
 
 -- mail is packed
-pub mail-packed : (ms : List (W.Message ℕ)) → length ms ≤ 4 → length (packed ms) ≤ 256 → PackedMail (mailOf ms)
+pub mail-packed : (ms : List (W.Message Addr)) → length ms ≤ 4 → length (packed ms) ≤ 256 → PackedMail (mailOf ms)
 unfolding mailOf
 mail-packed ms h k =
     record {
@@ -52,7 +53,7 @@ mail-packed ms h k =
       gossip = packed-pack toGossip fromGossip 256 noGossip (packed ms) k;
     }
 
-pub post-is : (ms : List (W.Message ℕ)) (x : W.Message ℕ) (m : Mail) (rows : List Gossip) (count : ℕ) → m ≡ mailOf ms → take count rows ≡ map fromGossip (x .gossip) → count ≡ length (x .gossip)
+pub post-is : (ms : List (W.Message Addr)) (x : W.Message Addr) (m : Mail) (rows : List Gossip) (count : ℕ) → m ≡ mailOf ms → take count rows ≡ map fromGossip (x .gossip) → count ≡ length (x .gossip)
     → length ms < 4 → posted m (x .target) (fromAction (x .action)) rows count ≡ mailOf (ms ++ (x ∷ []))
 unfolding mailOf posted
 post-is ms x m rows count e f k h =
@@ -77,8 +78,8 @@ post-is ms x m rows count e f k h =
     written = ap (λ (j : ℕ). length (packed ms) + j) k ∙ sym (length-append (packed ms) (x .gossip)) ∙ ap length (sym (packed-more ms x))
 
 -- a row of gossip read back
-pub row-taken : (gs : List (W.Gossip ℕ)) → take (length gs) (padTo 64 noGossip (map fromGossip gs)) ≡ map fromGossip gs
+pub row-taken : (gs : List (W.Gossip Addr)) → take (length gs) (padTo 64 noGossip (map fromGossip gs)) ≡ map fromGossip gs
 row-taken gs = take-at (map fromGossip gs) (replicate (64 - length (map fromGossip gs)) noGossip) (length gs) (length-map gs fromGossip)
 
-pub row-read : (gs : List (W.Gossip ℕ)) → map toGossip (take (length gs) (padTo 64 noGossip (map fromGossip gs))) ≡ gs
+pub row-read : (gs : List (W.Gossip Addr)) → map toGossip (take (length gs) (padTo 64 noGossip (map fromGossip gs))) ≡ gs
 row-read gs = ap (map toGossip) (row-taken gs) ∙ to-from-gossips gs

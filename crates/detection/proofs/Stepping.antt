@@ -14,7 +14,7 @@ use Rattle.model.specs.declared.Reply.{Reply}
 use Rattle.model.specs.declared.Reply.the-variants.{Done, NotDue, Refused}
 use Rattle.model.specs.Rows.{pick, one}
 use Rattle.model.specs.Bounds.{Room, step-room}
-use Rattle.model.specs.IPv4.{ipv4}
+use Rattle.address.specs.Here.{Addr, here}
 use Rattle.model.specs.Words as W
 use Rattle.model.specs.Node as M
 use Rattle.model.specs.Detector as D
@@ -43,40 +43,40 @@ pub room-there : (gossips events : ℕ) → 256 ≤ gossips → 1 ≤ events →
 room-there gossips events g h = ap (λ (u : Bool). u || ltb events 1) (le-ltb gossips 256 g) ∙ le-ltb events 1 h
 
 module _ (n : Node) (w : Wait) (tick : ℕ) (draws : List ℕ) (gossips events : ℕ) where
-  abbrev s : M.Stored ℕ
+  abbrev s : M.Stored Addr
   s = storedView n
 
   abbrev lent : Room
   lent = record { gossip = gossips; events = events }
 
-  abbrev refuse : Refusal → StepOutcome ℕ
+  abbrev refuse : Refusal → StepOutcome Addr
   refuse r = record { outcome = refuses s r; wait = toWait w }
 
-  abbrev go : StepOutcome ℕ
-  go = whenDue (D.due (s .settings) (toWait w) tick) s (toWait w) (keptStep ipv4 s (toWait w) draws (D.step ipv4 (toState (w .state)) tick (M.loaded s) draws))
+  abbrev go : StepOutcome Addr
+  go = whenDue (D.due (s .settings) (toWait w) tick) s (toWait w) (keptStep here s (toWait w) draws (D.step here (toState (w .state)) tick (M.loaded s) draws))
 
   abbrev first : Bool × Refusal
-  first = (not (sound ipv4 s), Unsound)
+  first = (not (sound here s), Unsound)
 
   abbrev second : Bool × Refusal
   second = (short step-room lent, ShortRow)
 
   abbrev third : Bool × Refusal
-  third = (not (validState ipv4 (toState (w .state))), AddressRange)
+  third = (not (validState here (toState (w .state))), AddressRange)
 
-  pub step-unsound : sound ipv4 s ≡ false → plainStep (Refused Unsound) n w ≡ steppedOf (detect ipv4 s (toWait w) tick draws lent)
+  pub step-unsound : sound here s ≡ false → plainStep (Refused Unsound) n w ≡ steppedOf (detect here s (toWait w) tick draws lent)
   unfolding detect
   step-unsound e = plain-step (Refused Unsound) n w ∙ sym (ap steppedOf (test-fails first (second ∷ third ∷ []) refuse go (ap not e)))
 
-  module _ (e : sound ipv4 s ≡ true) where
-    pub step-short : short step-room lent ≡ true → plainStep (Refused ShortRow) n w ≡ steppedOf (detect ipv4 s (toWait w) tick draws lent)
+  module _ (e : sound here s ≡ true) where
+    pub step-short : short step-room lent ≡ true → plainStep (Refused ShortRow) n w ≡ steppedOf (detect here s (toWait w) tick draws lent)
     unfolding detect
     step-short v =
         plain-step (Refused ShortRow) n w
         ∙ sym (ap steppedOf (test-passes first (second ∷ third ∷ []) refuse go (ap not e) ∙ test-fails second (third ∷ []) refuse go v))
 
     module _ (v : short step-room lent ≡ false) where
-      pub step-address : validState ipv4 (toState (w .state)) ≡ false → plainStep (Refused AddressRange) n w ≡ steppedOf (detect ipv4 s (toWait w) tick draws lent)
+      pub step-address : validState here (toState (w .state)) ≡ false → plainStep (Refused AddressRange) n w ≡ steppedOf (detect here s (toWait w) tick draws lent)
       unfolding detect
       step-address a =
           plain-step (Refused AddressRange) n w
@@ -86,24 +86,24 @@ module _ (n : Node) (w : Wait) (tick : ℕ) (draws : List ℕ) (gossips events :
           ∙ test-passes second (third ∷ []) refuse go v
           ∙ test-fails third [] refuse go (ap not a)))
 
-      module _ (a : validState ipv4 (toState (w .state)) ≡ true) (u : Bool) (over : u ≡ D.isOver (D.waitOf (n .settings) (toState (w .state))) tick (w .since)) where
-        passed : detect ipv4 s (toWait w) tick draws lent
-            ≡ whenDue u s (toWait w) (keptStep ipv4 s (toWait w) draws (D.step ipv4 (toState (w .state)) tick (viewNode n) draws))
+      module _ (a : validState here (toState (w .state)) ≡ true) (u : Bool) (over : u ≡ D.isOver (D.waitOf (n .settings) (toState (w .state))) tick (w .since)) where
+        passed : detect here s (toWait w) tick draws lent
+            ≡ whenDue u s (toWait w) (keptStep here s (toWait w) draws (D.step here (toState (w .state)) tick (viewNode n) draws))
         unfolding detect storedView D.due
         passed =
             test-passes first (second ∷ third ∷ []) refuse go (ap not e)
             ∙ test-passes second (third ∷ []) refuse go v
             ∙ test-passes third [] refuse go (ap not a)
-            ∙ (λ i. whenDue (sym over i) s (toWait w) (keptStep ipv4 s (toWait w) draws (D.step ipv4 (toState (w .state)) tick (loaded-view n i) draws)))
+            ∙ (λ i. whenDue (sym over i) s (toWait w) (keptStep here s (toWait w) draws (D.step here (toState (w .state)) tick (loaded-view n i) draws)))
 
-        pub step-not-due : u ≡ false → plainStep NotDue n w ≡ steppedOf (detect ipv4 s (toWait w) tick draws lent)
+        pub step-not-due : u ≡ false → plainStep NotDue n w ≡ steppedOf (detect here s (toWait w) tick draws lent)
         step-not-due z =
             plain-step NotDue n w
-            ∙ sym (ap steppedOf (passed ∙ ap (λ (x : Bool). whenDue x s (toWait w) (keptStep ipv4 s (toWait w) draws (D.step ipv4 (toState (w .state)) tick (viewNode n) draws))) z))
+            ∙ sym (ap steppedOf (passed ∙ ap (λ (x : Bool). whenDue x s (toWait w) (keptStep here s (toWait w) draws (D.step here (toState (w .state)) tick (viewNode n) draws))) z))
 
-        pub step-is-due : u ≡ true → steppedOf (keptStep ipv4 s (toWait w) draws (D.step ipv4 (toState (w .state)) tick (viewNode n) draws)) ≡ steppedOf (detect ipv4 s (toWait w) tick draws lent)
+        pub step-is-due : u ≡ true → steppedOf (keptStep here s (toWait w) draws (D.step here (toState (w .state)) tick (viewNode n) draws)) ≡ steppedOf (detect here s (toWait w) tick draws lent)
         step-is-due z =
-            sym (ap steppedOf (passed ∙ ap (λ (x : Bool). whenDue x s (toWait w) (keptStep ipv4 s (toWait w) draws (D.step ipv4 (toState (w .state)) tick (viewNode n) draws))) z))
+            sym (ap steppedOf (passed ∙ ap (λ (x : Bool). whenDue x s (toWait w) (keptStep here s (toWait w) draws (D.step here (toState (w .state)) tick (viewNode n) draws))) z))
 
 -- a step that is stopped is not due
 not-both : (t : Tested) (reply : Reply) → t ≡ record { due = false; reply = reply } → t .due ≡ true → _≡_ {A = ℕ} 1 0
@@ -111,7 +111,7 @@ not-both t reply e z = ap one (sym z ∙ ap (λ (y : Tested). y .due) e)
 
 -- a test that stops the step says the answer
 pub stopped-told : (n : Node) (w : Wait) (tick gossips events : ℕ) (reply : Reply) (t : Tested) → t ≡ record { due = false; reply = reply }
-    → ((draws : List ℕ) → plainStep reply n w ≡ steppedOf (detect ipv4 (storedView n) (toWait w) tick draws (record { gossip = gossips; events = events })))
+    → ((draws : List ℕ) → plainStep reply n w ≡ steppedOf (detect here (storedView n) (toWait w) tick draws (record { gossip = gossips; events = events })))
     → Told n w tick gossips events t
 stopped-told n w tick gossips events reply t e f =
     record {
@@ -123,14 +123,14 @@ stopped-told n w tick gossips events reply t e f =
     }
 
 -- waiting: the state goes on or back, and nothing else changes
-pub waited-is : (n : Node) (r : Ready n) (w : W.Wait ℕ) (a : ℕ) (next : WaitState) (tick : ℕ) (draws : List ℕ)
-    → plainStep (Done 0) n (record { state = pick (D.heard ipv4 a (viewNode n)) SendingPing next; since = tick })
-    ≡ steppedOf (keptStep ipv4 (storedView n) w draws (D.waited ipv4 a (toState next) tick (viewNode n) draws))
+pub waited-is : (n : Node) (r : Ready n) (w : W.Wait Addr) (a : Addr) (next : WaitState) (tick : ℕ) (draws : List ℕ)
+    → plainStep (Done 0) n (record { state = pick (D.heard here a (viewNode n)) SendingPing next; since = tick })
+    ≡ steppedOf (keptStep here (storedView n) w draws (D.waited here a (toState next) tick (viewNode n) draws))
 unfolding D.waited
 waited-is n r w a next tick draws =
     let used : _≡_ {A = ℕ} 0 (length draws - length draws) = omega arith in
-    kept-step 0 (viewNode n) n (D.enters (pick (D.heard ipv4 a (viewNode n)) W.SendingPing (toState next)) tick) _ (sym (ready-is n r)) (λ i. record { state = back (D.heard ipv4 a (viewNode n)) i; since = tick })
-    ∙ ap (λ (k : ℕ). steppedOf (keptOf k (D.moves ipv4 (pick (D.heard ipv4 a (viewNode n)) W.SendingPing (toState next)) tick (viewNode n)))) used
+    kept-step 0 (viewNode n) n (D.enters (pick (D.heard here a (viewNode n)) W.SendingPing (toState next)) tick) _ (sym (ready-is n r)) (λ i. record { state = back (D.heard here a (viewNode n)) i; since = tick })
+    ∙ ap (λ (k : ℕ). steppedOf (keptOf k (D.moves here (pick (D.heard here a (viewNode n)) W.SendingPing (toState next)) tick (viewNode n)))) used
   where
     back : (u : Bool) → pick u SendingPing next ≡ fromState (pick u W.SendingPing (toState next))
     back true = refl

@@ -8,8 +8,8 @@ use lib.ListN.{length, take, set, replicate}
 use Rattle.model.specs.declared.Reply.{Reply}
 use Rattle.model.specs.declared.Reply.the-variants.{Done}
 use Rattle.model.specs.Rows.{padTo, pick}
-use Rattle.model.specs.Packing.{PackedRow}
-use Rattle.model.specs.IPv4.{ipv4}
+use Rattle.laws.specs.Packing.{PackedRow}
+use Rattle.address.specs.Here.{Addr, here}
 use Rattle.model.specs.Words as W
 use Rattle.model.specs.Members as list
 use Rattle.model.specs.Node as M
@@ -33,27 +33,27 @@ use Rattle.detection.specs.declared.Ended.{Ended}
 use Rattle.detection.specs.declared.mail.Mail.{Mail}
 use Rattle.detection.specs.declared.pinging.Asked.{Asked}
 
-abbrev pub toState : WaitState → W.WaitState ℕ
+abbrev pub toState : WaitState → W.WaitState Addr
 toState SendingPing = W.SendingPing
 toState (WaitingForPingAck a n) = W.WaitingForPingAck a n
 toState (SendingPingReq a n) = W.SendingPingReq a n
 toState (WaitingForPingReqAck a n) = W.WaitingForPingReqAck a n
 toState (Declaring a n) = W.Declaring a n
 
-abbrev pub fromState : W.WaitState ℕ → WaitState
+abbrev pub fromState : W.WaitState Addr → WaitState
 fromState W.SendingPing = SendingPing
 fromState (W.WaitingForPingAck a n) = WaitingForPingAck a n
 fromState (W.SendingPingReq a n) = SendingPingReq a n
 fromState (W.WaitingForPingReqAck a n) = WaitingForPingReqAck a n
 fromState (W.Declaring a n) = Declaring a n
 
-abbrev pub toWait : Wait → W.Wait ℕ
+abbrev pub toWait : Wait → W.Wait Addr
 toWait w = record { state = toState (w .state); since = w .since }
 
-abbrev pub fromWait : W.Wait ℕ → Wait
+abbrev pub fromWait : W.Wait Addr → Wait
 fromWait w = record { state = fromState (w .state); since = w .since }
 
-pub to-from-state : (st : W.WaitState ℕ) → toState (fromState st) ≡ st
+pub to-from-state : (st : W.WaitState Addr) → toState (fromState st) ≡ st
 to-from-state W.SendingPing = refl
 to-from-state (W.WaitingForPingAck a n) = refl
 to-from-state (W.SendingPingReq a n) = refl
@@ -67,7 +67,7 @@ from-to-state (SendingPingReq a n) = refl
 from-to-state (WaitingForPingReqAck a n) = refl
 from-to-state (Declaring a n) = refl
 
-pub to-from-wait : (w : W.Wait ℕ) → toWait (fromWait w) ≡ w
+pub to-from-wait : (w : W.Wait Addr) → toWait (fromWait w) ≡ w
 to-from-wait w = λ i. record { state = to-from-state (w .state) i; since = w .since }
 
 pub from-to-wait : (w : Wait) → fromWait (toWait w) ≡ w
@@ -78,11 +78,11 @@ abbrev pub freshWait : ℕ → Wait
 freshWait tick = record { state = SendingPing; since = tick }
 
 -- Alive or absent, as a list says
-abbrev pub heardIn : Members → ℕ → Bool
-heardIn m a = pick (list.listed (ipv4 .same) a (viewMembers m .table)) (W.isAlive (list.heldState (ipv4 .same) a (viewMembers m .table))) true
+abbrev pub heardIn : Members → Addr → Bool
+heardIn m a = pick (list.listed (here .same) a (viewMembers m .table)) (W.isAlive (list.heldState (here .same) a (viewMembers m .table))) true
 
 -- what a step gives: its answer, the wait record, the gossip of its messages in sending order, and the event that it reported
-unfoldable pub steppedOf : calls.StepOutcome ℕ → Stepped
+unfoldable pub steppedOf : calls.StepOutcome Addr → Stepped
 steppedOf o =
     record {
       answer = answerOf (o .outcome);
@@ -94,7 +94,7 @@ steppedOf o =
     }
 
 -- what a timer call gives
-unfoldable pub endedOf : calls.Outcome ℕ → Ended
+unfoldable pub endedOf : calls.Outcome Addr → Ended
 endedOf o =
     record {
       answer = answerOf o;
@@ -112,24 +112,24 @@ plainEnd reply n = record { answer = plainAnswer reply n; events = replicate 1 n
 
 -- what the tests before a step say of it, whatever is drawn
 pub record Told (n : Node) (w : Wait) (tick gossip-room event-room : ℕ) (t : Tested) : Type 0 where
-  pub stops : t .due ≡ false → (draws : List ℕ) → plainStep (t .reply) n w ≡ steppedOf (calls.detect ipv4 (storedView n) (toWait w) tick draws (record { gossip = gossip-room; events = event-room }))
+  pub stops : t .due ≡ false → (draws : List ℕ) → plainStep (t .reply) n w ≡ steppedOf (calls.detect here (storedView n) (toWait w) tick draws (record { gossip = gossip-room; events = event-room }))
   pub goes : t .due ≡ true → (draws : List ℕ)
-      → steppedOf (calls.keptStep ipv4 (storedView n) (toWait w) draws (D.step ipv4 (toState (w .state)) tick (viewNode n) draws))
-      ≡ steppedOf (calls.detect ipv4 (storedView n) (toWait w) tick draws (record { gossip = gossip-room; events = event-room }))
+      → steppedOf (calls.keptStep here (storedView n) (toWait w) draws (D.step here (toState (w .state)) tick (viewNode n) draws))
+      ≡ steppedOf (calls.detect here (storedView n) (toWait w) tick draws (record { gossip = gossip-room; events = event-room }))
   pub ready : t .due ≡ true → Ready n
-  pub valid : t .due ≡ true → calls.validState ipv4 (toState (w .state)) ≡ true
+  pub valid : t .due ≡ true → calls.validState here (toState (w .state)) ≡ true
   pub rooms : t .due ≡ true → (256 ≤ gossip-room) × (1 ≤ event-room)
 
 -- a step that is kept, after so many draws
-abbrev pub keptOf : ℕ → D.Stepped ℕ → calls.StepOutcome ℕ
+abbrev pub keptOf : ℕ → D.Stepped Addr → calls.StepOutcome Addr
 keptOf used e =
     record {
-      outcome = record { reply = Done used; node = M.stored ipv4 (e .effect .node); messages = e .effect .messages; events = e .effect .events };
+      outcome = record { reply = Done used; node = M.stored here (e .effect .node); messages = e .effect .messages; events = e .effect .events };
       wait = e .wait;
     }
 
 -- messages to be sent, and their gossip in one row
-unfoldable pub mailOf : List (W.Message ℕ) → Mail
+unfoldable pub mailOf : List (W.Message Addr) → Mail
 mailOf ms =
     record {
       letters = padTo 4 noLetter (map fromMessage ms);
@@ -144,7 +144,7 @@ pub record PackedMail (m : Mail) : Type 0 where
   pub gossip : PackedRow 256 noGossip (m .gossip) (m .written)
 
 -- one more message, with the first records of a row
-unfoldable pub posted : Mail → ℕ → Action → List Gossip → ℕ → Mail
+unfoldable pub posted : Mail → Addr → Action → List Gossip → ℕ → Mail
 posted m target action rows count =
     record {
       letters = set (m .letters) (m .sent) (record { target = target; action = action; count = count });
@@ -166,20 +166,20 @@ keptRows used n m w events reported =
     }
 
 -- one peer of the group was asked
-abbrev pub askedOne : Node → Mail → ℕ → ℕ → Asked
+abbrev pub askedOne : Node → Mail → Addr → Addr → Asked
 askedOne n m a suspect =
-    let c = M.spread ipv4 (viewNode n) in
+    let c = M.spread here (viewNode n) in
     record {
       node = packNode (c .node);
       mail = posted m a (PingReq (n .own) suspect) (padTo 64 noGossip (map fromGossip (c .gossip))) (length (c .gossip));
     }
 
 -- and all of it
-abbrev pub askedOf : M.Effect ℕ → Asked
+abbrev pub askedOf : M.Effect Addr → Asked
 askedOf e = record { node = packNode (e .node); mail = mailOf (e .messages) }
 
 -- a suspicion was reported, and the group asked
-abbrev pub groupAsked : ℕ → ℕ → ℕ → W.Gossip ℕ → M.Effect ℕ → D.Stepped ℕ
+abbrev pub groupAsked : Addr → ℕ → ℕ → W.Gossip Addr → M.Effect Addr → D.Stepped Addr
 groupAsked a n tick g e =
     record {
       effect = record { node = e .node; messages = e .messages; events = g ∷ [] };

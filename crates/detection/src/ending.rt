@@ -3,6 +3,7 @@ use crate::Ended;
 use crate::Stepped;
 use address::Address;
 use member::Members;
+use model::Kind;
 use model::Refusal;
 use model::Reply;
 use node::Answer;
@@ -12,7 +13,7 @@ use types::Gossip;
 ghost use mathlib.Core.Path.{_≡_};
 ghost use mathlib.Core.List.{[]};
 ghost use Prim.Native.Nat.{_≤_, _<_};
-ghost use Rattle.model.specs.IPv4.{ipv4};
+ghost use Rattle.address.specs.Here.{here};
 ghost use Rattle.model.specs.Rows.{pick};
 ghost use Rattle.model.specs.Members as list;
 ghost use Rattle.model.specs.Detector as D;
@@ -25,7 +26,7 @@ ghost use Rattle.detection.specs.Views.{endedOf};
 // An address is removed if it is listed.
 fn without(members: Members, a: Address) -> Members
     requires { ⌜ Held members ⌝ }
-    ensures { λ r. ⌜ r ≡ packMembers (pick (list.listed (ipv4 .same) a (viewMembers members .table)) (list.remove (ipv4 .same) a (viewMembers members)) (viewMembers members)) ⌝ }
+    ensures { λ r. ⌜ r ≡ packMembers (pick (list.listed (here .same) a (viewMembers members .table)) (list.remove (here .same) a (viewMembers members)) (viewMembers members)) ⌝ }
 {
     if members.lists(a) {
         return members.remove_member(a);
@@ -36,7 +37,7 @@ fn without(members: Members, a: Address) -> Members
 // The timer at a place ends: its address is removed, Deceased emitted at its number, its place reused.
 pub fn end_at(node: Node, place: usize) -> Ended
     requires { ⌜ Ready node × (place < node .timers .len) ⌝ }
-    ensures { λ r. ⌜ (r ≡ endedOf (calls.kept ipv4 (storedView node) [] (calls.reports ipv4 (D.endAt ipv4 place (viewNode node) [])))) × (r .reported ≤ 1) ⌝ }
+    ensures { λ r. ⌜ (r ≡ endedOf (calls.kept here (storedView node) [] (calls.reports here (D.endAt here place (viewNode node) [])))) × (r .reported ≤ 1) ⌝ }
 {
     let timers = node.timers;
     let entries = timers.entries;
@@ -47,16 +48,15 @@ pub fn end_at(node: Node, place: usize) -> Ended
     let gossip = Gossip {
         event: Event::new_node_deceased(node.own, timer.addr, timer.number),
     };
-    let deceased = node.deceased;
-    let pushed = disseminate::push(deceased, gossip);
+    let disseminator = node.disseminator;
+    let pushed = disseminator.push(Kind::Deceased, gossip);
     if pushed.full {
         return Ended::plain(Reply::Refused(Refusal::HeapFull), node);
     }
-    let alive = node.alive;
-    let dead = pushed.heap;
+    let told = pushed.disseminator;
     let fewer = node.with_timers(after);
     let gone = fewer.with_members(left);
-    let said = gone.with_heaps(alive, dead);
+    let said = gone.with_disseminator(told);
     let events = [gossip; Stepped::EVENTS];
     Ended {
         answer: Answer::plain(Reply::Done(0), said),

@@ -16,7 +16,7 @@ use types::Gossip;
 ghost use mathlib.Core.Path.{_≡_};
 ghost use Prim.Native.Nat.{_≤_};
 ghost use mathlib.Core.Bool.{false};
-ghost use Rattle.model.specs.IPv4.{ipv4};
+ghost use Rattle.address.specs.Here.{here};
 ghost use Rattle.model.specs.Detector as D;
 ghost use Rattle.model.specs.Calls as calls;
 ghost use Rattle.node.specs.Views.{storedView, viewNode};
@@ -112,7 +112,7 @@ impl Ended {
 
 // Is the address of a wait record in range? SendingPing holds none.
 fn in_range(state: WaitState) -> bool
-    ensures { λ r. ⌜ r ≡ calls.validState ipv4 (toState state) ⌝ }
+    ensures { λ r. ⌜ r ≡ calls.validState here (toState state) ⌝ }
 {
     match state {
         WaitState::SendingPing => true,
@@ -187,7 +187,7 @@ pub fn step(
     gossip_room: usize,
     event_room: usize,
 ) -> Stepped
-    ensures { λ r. ⌜ (r ≡ steppedOf (calls.detect ipv4 (storedView node) (toWait wait) tick (now (draws .entry)) (record { gossip = «gossip_room»; events = «event_room» }))) × (r .written ≤ «gossip_room») × (r .written ≤ 256) × (r .reported ≤ «event_room») × (r .reported ≤ 1) ⌝ }
+    ensures { λ r. ⌜ (r ≡ steppedOf (calls.detect here (storedView node) (toWait wait) tick (now (draws .entry)) (record { gossip = «gossip_room»; events = «event_room» }))) × (r .written ≤ «gossip_room») × (r .written ≤ 256) × (r .reported ≤ «event_room») × (r .reported ≤ 1) ⌝ }
 {
     let told = test_step(node, wait, tick, gossip_room, event_room);
     let reply = told.reply;
@@ -220,7 +220,7 @@ pub fn step(
 
 // The timer call: 2, 3, not due, then the earliest started that is over ends.
 pub fn end_timer(node: Node, tick: u32, gossip_room: usize, event_room: usize) -> Ended
-    ensures { λ r. ⌜ (r ≡ endedOf (calls.endTimer ipv4 (storedView node) tick (record { gossip = «gossip_room»; events = «event_room» }))) × (r .reported ≤ «event_room») × (r .reported ≤ 1) ⌝ }
+    ensures { λ r. ⌜ (r ≡ endedOf (calls.endTimer here (storedView node) tick (record { gossip = «gossip_room»; events = «event_room» }))) × (r .reported ≤ «event_room») × (r .reported ≤ 1) ⌝ }
 {
     node::tests::has_rows(node);
     if !node::tests::sound(node) {

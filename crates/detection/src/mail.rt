@@ -11,7 +11,7 @@ ghost use mathlib.Core.List.{[], _++_};
 ghost use Prim.Native.Nat.{_+_, _≤_, _<_};
 ghost use lib.ListN.{take};
 ghost use Rattle.model.specs.Rows.{padTo};
-ghost use Rattle.model.specs.Packing.{PackedRow};
+ghost use Rattle.laws.specs.Packing.{PackedRow};
 ghost use Rattle.types.specs.Views.{noGossip};
 ghost use Rattle.detection.specs.Views.{mailOf, PackedMail, posted};
 

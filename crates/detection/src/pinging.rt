@@ -5,12 +5,13 @@ use crate::WaitState;
 use crate::mail::Mail;
 use address::Address;
 use member::Member;
+use model::Drew;
+use model::Kind;
 use model::Refusal;
 use model::Reply;
 use model::State;
 use node::Answer;
 use node::Node;
-use order::Drew;
 use order::Exclusion;
 use order::Picks;
 use types::Action;
@@ -22,7 +23,7 @@ ghost use mathlib.Core.Bool.{true};
 ghost use mathlib.Core.List.{[], map};
 ghost use Prim.Native.Nat.{_+_, _≤_, _<_};
 ghost use lib.ListN.{take};
-ghost use Rattle.model.specs.IPv4.{ipv4};
+ghost use Rattle.address.specs.Here.{here};
 ghost use Rattle.model.specs.Detector as D;
 ghost use Rattle.model.specs.Calls as calls;
 ghost use Rattle.types.specs.Views.{toGossip};
@@ -68,7 +69,7 @@ fn pinged(
     tick: u32,
 ) -> Stepped
     requires { ⌜ Ready node × (picks .count ≤ 4) × (count ≤ 58) ⌝ }
-    ensures { λ r. ⌜ (r ≡ steppedOf (keptOf used (D.pinged ipv4 tick (map toGossip (take count rows)) (viewNode node) (take (picks .count) (picks .row))))) × (r .written ≤ 256) × (r .reported ≤ 1) ⌝ }
+    ensures { λ r. ⌜ (r ≡ steppedOf (keptOf used (D.pinged here tick (map toGossip (take count rows)) (viewNode node) (take (picks .count) (picks .row))))) × (r .written ≤ 256) × (r .reported ≤ 1) ⌝ }
 {
     if picks.count == 0 {
         return Stepped::plain(Reply::Done(used), node, Wait::new(tick));
@@ -95,7 +96,7 @@ fn pinged(
 // SendingPing: gossip is chosen, then one peer is picked.
 pub fn send_ping(node: Node, wait: Wait, tick: u32, draws: &[u64]) -> Stepped
     requires { ⌜ Ready node ⌝ }
-    ensures { λ r. ⌜ (r ≡ steppedOf (calls.keptStep ipv4 (storedView node) (toWait wait) (now (draws .entry)) (D.sendPing ipv4 tick (viewNode node) (now (draws .entry))))) × (r .written ≤ 256) × (r .reported ≤ 1) ⌝ }
+    ensures { λ r. ⌜ (r ≡ steppedOf (calls.keptStep here (storedView node) (toWait wait) (now (draws .entry)) (D.sendPing here tick (viewNode node) (now (draws .entry))))) × (r .written ≤ 256) × (r .reported ≤ 1) ⌝ }
 {
     let spread = node.spread();
     let chosen = spread.node;
@@ -145,7 +146,7 @@ fn ask_one(node: Node, mail: Mail, target: Address, suspect: Address) -> Asked
 // Each peer of the group is asked, in the order picked.
 fn ask_each(node: Node, picks: Picks, suspect: Address) -> Asked
     requires { ⌜ Ready node × (picks .count ≤ 4) ⌝ }
-    ensures { λ r. ⌜ r ≡ askedOf (D.askEach ipv4 suspect (take (picks .count) (picks .row)) (viewNode node) []) ⌝ }
+    ensures { λ r. ⌜ r ≡ askedOf (D.askEach here suspect (take (picks .count) (picks .row)) (viewNode node) []) ⌝ }
     ensures within { λ r. ⌜ r .mail .written ≤ 232 ⌝ }
 {
     let row = picks.row;
@@ -173,7 +174,7 @@ fn ask_group(
     tick: u32,
 ) -> Stepped
     requires { ⌜ Ready node × (picks .count ≤ 4) ⌝ }
-    ensures { λ r. ⌜ (r ≡ steppedOf (keptOf used (groupAsked target number tick (toGossip suspected) (D.askEach ipv4 target (take (picks .count) (picks .row)) (viewNode node) [])))) × (r .written ≤ 256) × (r .reported ≤ 1) ⌝ }
+    ensures { λ r. ⌜ (r ≡ steppedOf (keptOf used (groupAsked target number tick (toGossip suspected) (D.askEach here target (take (picks .count) (picks .row)) (viewNode node) [])))) × (r .written ≤ 256) × (r .reported ≤ 1) ⌝ }
 {
     let asked = ask_each(node, picks, target);
     let after = asked.node;
@@ -195,8 +196,8 @@ pub fn send_ping_req(
     tick: u32,
     draws: &[u64],
 ) -> Stepped
-    requires { ⌜ Ready node × (ipv4 .valid target ≡ true) ⌝ }
-    ensures { λ r. ⌜ (r ≡ steppedOf (calls.keptStep ipv4 (storedView node) (toWait wait) (now (draws .entry)) (D.sendPingReq ipv4 target number tick (viewNode node) (now (draws .entry))))) × (r .written ≤ 256) × (r .reported ≤ 1) ⌝ }
+    requires { ⌜ Ready node × (here .valid target ≡ true) ⌝ }
+    ensures { λ r. ⌜ (r ≡ steppedOf (calls.keptStep here (storedView node) (toWait wait) (now (draws .entry)) (D.sendPingReq here target number tick (viewNode node) (now (draws .entry))))) × (r .written ≤ 256) × (r .reported ≤ 1) ⌝ }
 {
     let members = node.members;
     let changed = members.update_member(Member {
@@ -207,8 +208,8 @@ pub fn send_ping_req(
     let suspected = Gossip {
         event: Event::new_node_suspected(node.own, target, number),
     };
-    let alive = node.alive;
-    let pushed = disseminate::push(alive, suspected);
+    let disseminator = node.disseminator;
+    let pushed = disseminator.push(Kind::Alive, suspected);
     if pushed.full {
         return Stepped::plain(Reply::Refused(Refusal::HeapFull), node, wait);
     }
@@ -220,10 +221,9 @@ pub fn send_ping_req(
     let drew = picked.drew;
     match drew {
         Drew::Used(used) => {
-            let living = pushed.heap;
-            let deceased = node.deceased;
+            let told = pushed.disseminator;
             let listed = node.with_members(after);
-            let turned = listed.with_heaps(living, deceased);
+            let turned = listed.with_disseminator(told);
             ask_group(turned, picks, target, number, suspected, used, tick)
         }
         Drew::Refused(missed) => Stepped::plain(Reply::Refused(missed), node, wait),

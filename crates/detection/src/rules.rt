@@ -13,7 +13,7 @@ use timers::Timers;
 ghost use mathlib.Core.Path.{_≡_};
 ghost use mathlib.Core.List.{[]};
 ghost use Prim.Native.Nat.{_<_};
-ghost use Rattle.model.specs.IPv4.{ipv4};
+ghost use Rattle.address.specs.Here.{here};
 ghost use Rattle.model.specs.Rows.{pick};
 ghost use Rattle.model.specs.Detector as D;
 ghost use Rattle.model.specs.Calls as calls;
@@ -61,7 +61,7 @@ pub fn declare_node_as_dead(
     tick: u32,
 ) -> Stepped
     requires { ⌜ Ready node ⌝ }
-    ensures { λ r. ⌜ r ≡ steppedOf (calls.keptStep ipv4 (storedView node) (toWait wait) [] (D.declare ipv4 target number tick (viewNode node) [])) ⌝ }
+    ensures { λ r. ⌜ r ≡ steppedOf (calls.keptStep here (storedView node) (toWait wait) [] (D.declare here target number tick (viewNode node) [])) ⌝ }
 {
     let timers = node.timers;
     if Timers::CAPACITY <= timers.len {

@@ -7,13 +7,14 @@ use native.Mathlib.Omega.{arith}
 use lib.Dec.{eqb, leb}
 use lib.ListN.{length}
 use Rattle.model.specs.Rows.{one, pick}
-use Rattle.model.specs.IPv4.{ipv4}
+use Rattle.address.specs.Here.{Addr, here}
 use Rattle.model.specs.Words as W
 use Rattle.model.specs.Choose as M
 use Rattle.model.specs.Choose.{tryAlive, tryDeceased, afterAlive, afterDeceased, gave, over, rounds, choose}
-use Rattle.model.specs.Chosen.{heap-least}
-use Rattle.model.specs.Sound.{AliveKind, DeceasedKind}
-use Rattle.model.specs.Good.{GoodHeap}
+use Rattle.disseminate.specs.Fit.{heap-least}
+use Rattle.model.specs.declared.Kind.{Kind}
+use Rattle.model.specs.declared.Kind.the-variants as kind
+use Rattle.laws_choose.specs.GoodHeap.{GoodHeap}
 use Rattle.heap.specs.declared.Heap.{Heap}
 use Rattle.heap.specs.Views.{heapView, packHeap, Packed, view-length}
 use Rattle.disseminate.specs.declared.Terms.{Terms}
@@ -26,9 +27,9 @@ use Rattle.disseminate.proofs.Trying.{held-none, turned, rounds-over, r
 
 module _ (t : Terms) where
   -- what is left of the rounds leads to the goal
-  pub record Going (goal : M.Choice ℕ) (c : Choice) (left : ℕ) : Type 0 where
+  pub record Going (goal : M.Choice Addr) (c : Choice) (left : ℕ) : Type 0 where
     pub ready : Ready t c
-    pub same : rounds ipv4 left (toTerms t) (choiceView c) ≡ goal
+    pub same : rounds here left (toTerms t) (choiceView c) ≡ goal
 
   abbrev pub fresh : Heap → Heap → Chosen → Choice
   fresh a d n = record { alive = a; deceased = d; chosen = n; «from_alive» = 0; «from_deceased» = 0 }
@@ -37,15 +38,15 @@ module _ (t : Terms) where
       (a d : Heap) (n : Chosen) →
       Packed a →
       Packed d →
-      GoodHeap ipv4 AliveKind (heapView a) →
-      GoodHeap ipv4 DeceasedKind (heapView d) →
+      GoodHeap here kind.Alive (heapView a) →
+      GoodHeap here kind.Deceased (heapView d) →
       t .«max_size» ≤ 1400 →
       t .limit ≤ 23 →
       n ≡ chosenNone →
-      Going (choose ipv4 (toTerms t) (heapView a) (heapView d)) (fresh a d n) 64
+      Going (choose here (toTerms t) (heapView a) (heapView d)) (fresh a d n) 64
   unfolding choose noted
   begins a d n p q g h s l e =
-      subst (λ (x : Chosen). Going (choose ipv4 (toTerms t) (heapView a) (heapView d)) (fresh a d x) 64) (sym e)
+      subst (λ (x : Chosen). Going (choose here (toTerms t) (heapView a) (heapView d)) (fresh a d x) 64) (sym e)
       (record {
         ready = record {
           alive = p;
@@ -56,8 +57,8 @@ module _ (t : Terms) where
           kept = record {
             heaps = record { alive = g; deceased = h };
             within = record {
-              alive = heap-least AliveKind (heapView a) g;
-              deceased = heap-least DeceasedKind (heapView d) h;
+              alive = heap-least kind.Alive (heapView a) g;
+              deceased = heap-least kind.Deceased (heapView d) h;
               counted = omega arith;
               fits = omega arith;
             };
@@ -73,7 +74,7 @@ module _ (t : Terms) where
       (c : Choice) (u : Bool) →
       Ready t c →
       u ≡ (eqb (c .alive .len + c .deceased .len) 0 || (leb (t .«alive_share») (c .«from_alive») && leb (t .«deceased_share») (c .«from_deceased»))) →
-      u ≡ over ipv4 (toTerms t) (choiceView c)
+      u ≡ over here (toTerms t) (choiceView c)
   unfolding over
   over-is c u r e =
       let k : c .alive .len + c .deceased .len ≡ length (heapView (c .alive)) + length (heapView (c .deceased)) =
@@ -82,7 +83,7 @@ module _ (t : Terms) where
       ∙ ap (λ (b : Bool). b || (leb (t .«alive_share») (c .«from_alive») && leb (t .«deceased_share») (c .«from_deceased»)))
       (ap (λ (n : ℕ). eqb n 0) k ∙ sym (held-none (heapView (c .alive)) (heapView (c .deceased))))
 
-  module _ (goal : M.Choice ℕ) (c : Choice) (left : ℕ) (g : Going goal c left) where
+  module _ (goal : M.Choice Addr) (c : Choice) (left : ℕ) (g : Going goal c left) where
     reached : choiceView c ≡ goal → c ≡ packChoice goal
     reached e = pack-choice t c (g .ready) ∙ ap packChoice e
 
@@ -90,29 +91,29 @@ module _ (t : Terms) where
     unfolding rounds
     ends-out h =
         let z : left ≡ 0 = omega arith in
-        reached (ap (λ (f : ℕ). rounds ipv4 f (toTerms t) (choiceView c)) (sym z) ∙ g .same)
+        reached (ap (λ (f : ℕ). rounds here f (toTerms t) (choiceView c)) (sym z) ∙ g .same)
 
     module _ (some : 0 < left) where
-      this : rounds ipv4 (suc (left - 1)) (toTerms t) (choiceView c) ≡ goal
+      this : rounds here (suc (left - 1)) (toTerms t) (choiceView c) ≡ goal
       this =
           let z : suc (left - 1) ≡ left = omega arith in
-          ap (λ (f : ℕ). rounds ipv4 f (toTerms t) (choiceView c)) z ∙ g .same
+          ap (λ (f : ℕ). rounds here f (toTerms t) (choiceView c)) z ∙ g .same
 
-      pub ends-over : over ipv4 (toTerms t) (choiceView c) ≡ true → c ≡ packChoice goal
+      pub ends-over : over here (toTerms t) (choiceView c) ≡ true → c ≡ packChoice goal
       ends-over o = reached (sym (rounds-over (toTerms t) (choiceView c) (left - 1) o) ∙ this)
 
       module _
-          (o : over ipv4 (toTerms t) (choiceView c) ≡ false)
+          (o : over here (toTerms t) (choiceView c) ≡ false)
           (a b : Choice)
-          (ea : choiceView a ≡ afterAlive ipv4 (choiceView c) (tryAlive ipv4 (toTerms t) (choiceView c)))
-          (eb : choiceView b ≡ afterDeceased ipv4 (choiceView a) (tryDeceased ipv4 (toTerms t) (choiceView a)))
+          (ea : choiceView a ≡ afterAlive here (choiceView c) (tryAlive here (toTerms t) (choiceView c)))
+          (eb : choiceView b ≡ afterDeceased here (choiceView a) (tryDeceased here (toTerms t) (choiceView a)))
           (ready : Ready t b)
         where
           round : choiceView b ≡ turned (toTerms t) (choiceView c)
-          round = eb ∙ ap (λ (m : M.Choice ℕ). afterDeceased ipv4 m (tryDeceased ipv4 (toTerms t) m)) ea
+          round = eb ∙ ap (λ (m : M.Choice Addr). afterDeceased here m (tryDeceased here (toTerms t) m)) ea
 
           many : length (turned (toTerms t) (choiceView c) .chosen) ≡ b .chosen .count
-          many = ap (λ (m : M.Choice ℕ). length (m .chosen)) (sym round) ∙ chosen-length (b .chosen) (ready .chosen)
+          many = ap (λ (m : M.Choice Addr). length (m .chosen)) (sym round) ∙ chosen-length (b .chosen) (ready .chosen)
 
           before : length (choiceView c .chosen) ≡ c .chosen .count
           before = chosen-length (c .chosen) (g .ready .chosen)
@@ -125,19 +126,19 @@ module _ (t : Terms) where
               record {
                 ready = ready;
                 same =
-                    ap (rounds ipv4 (left - 1) (toTerms t)) round
+                    ap (rounds here (left - 1) (toTerms t)) round
                     ∙ sym (rounds-more (toTerms t) (choiceView c) (left - 1) o (λ e. n (sym many ∙ e ∙ before)))
                     ∙ this;
               }
 
       -- a round of the code: a try at each heap, and one more from it where it gave one
       module _
-          (o : over ipv4 (toTerms t) (choiceView c) ≡ false)
+          (o : over here (toTerms t) (choiceView c) ≡ false)
           (u : Bool)
           (n : Chosen)
           (a : Heap)
           (living : ℕ)
-          (gu : u ≡ gave ipv4 (tried t (c .alive) (c .chosen) (open-alive t c (g .ready))))
+          (gu : u ≡ gave here (tried t (c .alive) (c .chosen) (open-alive t c (g .ready))))
           (nu : NotedIf u (c .chosen) (topOf (c .alive)) n)
           (au : a ≡ pick u (packHeap (without-top t (c .alive) (c .chosen) (open-alive t c (g .ready)) .heap)) (c .alive))
           (lu : living ≡ c .«from_alive» + one u)
@@ -145,7 +146,7 @@ module _ (t : Terms) where
           abbrev between : Choice
           between = with-alive c (record { heap = a; chosen = n; gave = u })
 
-          first : (choiceView between ≡ afterAlive ipv4 (choiceView c) (tryAlive ipv4 (toTerms t) (choiceView c))) × Ready t between
+          first : (choiceView between ≡ afterAlive here (choiceView c) (tryAlive here (toTerms t) (choiceView c))) × Ready t between
           first = alive-turn t c (g .ready) u n a gu nu au
 
           pub opens : Open t (c .deceased) n
@@ -156,7 +157,7 @@ module _ (t : Terms) where
               (m : Chosen)
               (d : Heap)
               (dead : ℕ)
-              (gv : v ≡ gave ipv4 (tried t (c .deceased) n opens))
+              (gv : v ≡ gave here (tried t (c .deceased) n opens))
               (mv : NotedIf v n (topOf (c .deceased)) m)
               (dv : d ≡ pick v (packHeap (without-top t (c .deceased) n opens .heap)) (c .deceased))
               (lv : dead ≡ c .«from_deceased» + one v)
@@ -164,7 +165,7 @@ module _ (t : Terms) where
               abbrev next : Choice
               next = with-deceased between (record { heap = d; chosen = m; gave = v })
 
-              second : (choiceView next ≡ afterDeceased ipv4 (choiceView between) (tryDeceased ipv4 (toTerms t) (choiceView between))) × Ready t next
+              second : (choiceView next ≡ afterDeceased here (choiceView between) (tryDeceased here (toTerms t) (choiceView between))) × Ready t next
               second = deceased-turn t between (first .1) v m d gv mv dv
 
               abbrev reads : Choice

@@ -12,12 +12,12 @@ use lib.ListN.{length, getD, set, take, replicate, length-map, length-take, leng
 use lib.Seq.{take-at, take-all, take-suc, take-suc-set, getD-at, getD-set-same, getD-set-other, length-take-le}
 use borrow.Author.Tests.{eq-eqb, ne-eqb}
 use Rattle.model.specs.Rows.{pick, padTo}
-use Rattle.model.specs.Pad.{length-padTo}
-use Rattle.model.specs.IPv4.{ipv4}
+use Rattle.laws.specs.Pad.{length-padTo}
+use Rattle.address.specs.Here.{here}
 use Rattle.model.specs.Words as W
 use Rattle.model.specs.Words.{sameGossip}
 use Rattle.model.specs.Choose.{wasNoted}
-use Rattle.model.specs.HeapFrames.{map-append}
+use Rattle.laws.specs.Lists.{map-append}
 use Rattle.types.specs.declared.Gossip.{Gossip}
 use Rattle.types.specs.Views.{toGossip, fromGossip, noGossip, from-to-gossips}
 use Rattle.heap.specs.declared.Entry.{Entry}
@@ -43,16 +43,16 @@ chosen-length n p =
 -- looking through the notes from the last one
 module _ (rows : List Gossip) (sent : List ℕ) (g : Gossip) (n : ℕ) where
   abbrev pub was : ℕ → Bool
-  was i = wasNoted ipv4 (toGossip g) n (noted rows sent i)
+  was i = wasNoted here (toGossip g) n (noted rows sent i)
 
-  abbrev here : ℕ → Bool
-  here i = sameGossip ipv4 (toGossip g) (toGossip (getD rows i noGossip)) && eqb n (getD sent i 0)
+  abbrev agrees : ℕ → Bool
+  agrees i = sameGossip here (toGossip g) (toGossip (getD rows i noGossip)) && eqb n (getD sent i 0)
 
-  last : (i : ℕ) → was (suc i) ≡ pick (here i) true (was i)
+  last : (i : ℕ) → was (suc i) ≡ pick (agrees i) true (was i)
   unfolding noted wasNoted
   last i = refl
 
-  at : (i : ℕ) → 0 < i → was i ≡ pick (here (i - 1)) true (was (i - 1))
+  at : (i : ℕ) → 0 < i → was i ≡ pick (agrees (i - 1)) true (was (i - 1))
   at i h = let e : i ≡ suc (i - 1) = omega arith in ap was e ∙ last (i - 1)
 
   both-true : {u v : Bool} → u ≡ true → v ≡ true → (u && v) ≡ true
@@ -65,16 +65,16 @@ module _ (rows : List Gossip) (sent : List ℕ) (g : Gossip) (n : ℕ) where
   not-right true p = p
   not-right false p = refl
 
-  pub was-here : (i : ℕ) (r : Bool) → 0 < i → r ≡ sameGossip ipv4 (toGossip g) (toGossip (getD rows (i - 1) noGossip)) → r ≡ true → getD sent (i - 1) 0 ≡ n → was i ≡ true
-  was-here i r h e t q =
+  pub was-there : (i : ℕ) (r : Bool) → 0 < i → r ≡ sameGossip here (toGossip g) (toGossip (getD rows (i - 1) noGossip)) → r ≡ true → getD sent (i - 1) 0 ≡ n → was i ≡ true
+  was-there i r h e t q =
       at i h ∙ ap (λ (u : Bool). pick u true (was (i - 1))) (both-true (sym e ∙ t) (eq-eqb n (getD sent (i - 1) 0) (sym q)))
 
-  pub was-other : (i : ℕ) (r : Bool) → 0 < i → r ≡ sameGossip ipv4 (toGossip g) (toGossip (getD rows (i - 1) noGossip)) → r ≡ false → was i ≡ was (i - 1)
+  pub was-other : (i : ℕ) (r : Bool) → 0 < i → r ≡ sameGossip here (toGossip g) (toGossip (getD rows (i - 1) noGossip)) → r ≡ false → was i ≡ was (i - 1)
   was-other i r h e t = at i h ∙ ap (λ (u : Bool). pick u true (was (i - 1))) (not-left (eqb n (getD sent (i - 1) 0)) (sym e ∙ t))
 
   pub was-apart : (i : ℕ) → 0 < i → (getD sent (i - 1) 0 ≡ n → ⊥) → was i ≡ was (i - 1)
   was-apart i h q =
-      at i h ∙ ap (λ (u : Bool). pick u true (was (i - 1))) (not-right (sameGossip ipv4 (toGossip g) (toGossip (getD rows (i - 1) noGossip))) (ne-eqb n (getD sent (i - 1) 0) (λ z. q (sym z))))
+      at i h ∙ ap (λ (u : Bool). pick u true (was (i - 1))) (not-right (sameGossip here (toGossip g) (toGossip (getD rows (i - 1) noGossip))) (ne-eqb n (getD sent (i - 1) 0) (λ z. q (sym z))))
 
   pub was-none : (i : ℕ) → i ≤ 0 → was i ≡ false
   unfolding noted wasNoted

@@ -6,18 +6,22 @@ use mathlib.Core.List.{List, [], _∷_, _++_, map}
 use mathlib.Core.Option.{Option, none, some}
 use Prim.Native.Nat.{ℕ, zero, suc, _+_, _*_, _≤_, _<_}
 use lib.ListN.{length, getD, take, replicate}
-use Rattle.model.specs.Rows.{padTo}
+use lib.Dec.{leb}
+use Rattle.model.specs.Rows.{pick, padTo}
 use Rattle.model.specs.Answers.{Answer, refused, done}
-use Rattle.model.specs.IPv4.{ipv4}
+use Rattle.address.specs.Here.{Addr, here}
 use Rattle.model.specs.Words as W
+use Rattle.model.specs.Heap.{push}
 use Rattle.model.specs.Choose as M
-use Rattle.model.specs.ChooseLaws.{GoodHeaps, Within}
+use Rattle.model.specs.Node as N
+use Rattle.laws_choose.specs.ChooseLaws.{GoodHeaps, Within}
 use Rattle.types.specs.declared.Gossip.{Gossip}
-use Rattle.types.specs.Views.{toGossip, fromGossip, noGossip, to-from-gossip}
-use Rattle.model.specs.Packing.{view-pack}
+use Rattle.types.specs.Views.{toGossip, fromGossip, noGossip}
 use Rattle.heap.specs.declared.Entry.{Entry}
 use Rattle.heap.specs.declared.Heap.{Heap}
-use Rattle.heap.specs.Views.{noEntry, heapView, packHeap, Packed}
+use Rattle.heap.specs.Views.{noEntry, heapView, packHeap, Packed, pack-view}
+use Rattle.disseminate.specs.declared.Disseminator.{Disseminator}
+use Rattle.disseminate.specs.declared.Grown.{Grown}
 use Rattle.disseminate.specs.declared.Pushed.{Pushed}
 use Rattle.disseminate.specs.declared.Found.{Found}
 use Rattle.disseminate.specs.declared.Found.the-variants.{Missing, At}
@@ -25,10 +29,34 @@ use Rattle.disseminate.specs.declared.Terms.{Terms}
 use Rattle.disseminate.specs.declared.Chosen.{Chosen}
 use Rattle.disseminate.specs.declared.Choice.{Choice}
 
--- a heap after a push that was not refused, or the heap as it came
-abbrev pub heldOr : Heap → Answer (List (W.Entry ℕ)) → Pushed
-heldOr h (refused r) = record { heap = h; full = true }
-heldOr h (done l ds) = record { heap = packHeap l; full = false }
+abbrev pub viewDisseminator : Disseminator → N.Disseminator ℕ
+viewDisseminator d = record { alive = heapView (d .alive); deceased = heapView (d .deceased) }
+
+abbrev pub packDisseminator : N.Disseminator ℕ → Disseminator
+packDisseminator d = record { alive = packHeap (d .alive); deceased = packHeap (d .deceased) }
+
+abbrev pub noNews : N.Disseminator ℕ
+noNews = record { alive = []; deceased = [] }
+
+pub record PackedHeaps (d : Disseminator) : Type 0 where
+  pub alive : Packed (d .alive)
+  pub deceased : Packed (d .deceased)
+
+-- what is read from packed heaps is packed again
+pub both-back : (d : Disseminator) → PackedHeaps d → packDisseminator (viewDisseminator d) ≡ d
+both-back d p = λ i. record { alive = pack-view (d .alive) (p .alive) i; deceased = pack-view (d .deceased) (p .deceased) i }
+
+-- a heap with one gossip more, or as it came since it was full
+abbrev pub grown : Heap → W.Gossip Addr → Grown
+grown h g =
+    pick (leb 128 (length (heapView h)))
+    (record { heap = h; full = true })
+    (record { heap = packHeap (push W.unused W.sendsOf (heapView h) (M.entryOf here g)); full = false })
+
+-- the heaps after a push that was not refused, or as they came
+abbrev pub heldOr : Disseminator → Answer (N.Disseminator ℕ) → Pushed
+heldOr d (refused r) = record { disseminator = d; full = true }
+heldOr d (done x ds) = record { disseminator = packDisseminator x; full = false }
 
 abbrev pub fromFound : Option ℕ → Found
 fromFound none = Missing
@@ -53,22 +81,22 @@ fromTerms t =
     }
 
 -- the first k chosen with their send counts, the last one first
-unfoldable pub noted : List Gossip → List ℕ → ℕ → List (W.Gossip ℕ × ℕ)
+unfoldable pub noted : List Gossip → List ℕ → ℕ → List (W.Gossip Addr × ℕ)
 noted rows sent zero = []
 noted rows sent (suc k) = (toGossip (getD rows k noGossip), getD sent k 0) ∷ noted rows sent k
 
 -- the send counts of what is noted, the first one first
-unfoldable pub counts : List (W.Gossip ℕ × ℕ) → List ℕ
+unfoldable pub counts : List (W.Gossip Addr × ℕ) → List ℕ
 counts [] = []
 counts (x ∷ l) = counts l ++ (x .1 ∷ [])
 
 abbrev pub chosenNone : Chosen
 chosenNone = record { rows = replicate 64 noGossip; sent = replicate 64 0; count = 0; size = 0 }
 
-abbrev pub chosenView : Chosen → List (W.Gossip ℕ)
+abbrev pub chosenView : Chosen → List (W.Gossip Addr)
 chosenView n = map toGossip (take (n .count) (n .rows))
 
-abbrev pub choiceView : Choice → M.Choice ℕ
+abbrev pub choiceView : Choice → M.Choice Addr
 choiceView c =
     record {
       alive = heapView (c .alive);
@@ -80,7 +108,7 @@ choiceView c =
       size = c .chosen .size;
     }
 
-abbrev pub packChoice : M.Choice ℕ → Choice
+abbrev pub packChoice : M.Choice Addr → Choice
 packChoice m =
     record {
       alive = packHeap (m .alive);
@@ -95,10 +123,6 @@ packChoice m =
       «from_deceased» = m .from-deceased;
     }
 
--- what was chosen is read back from the rows
-pub chosen-view : (m : M.Choice ℕ) → chosenView (packChoice m .chosen) ≡ m .chosen
-chosen-view m = view-pack toGossip fromGossip to-from-gossip 64 noGossip (m .chosen)
-
 -- the rows hold count gossips and their send counts, and every place behind them is unused
 pub record PackedChosen (n : Chosen) : Type 0 where
   pub few : n .count ≤ 64
@@ -106,7 +130,7 @@ pub record PackedChosen (n : Chosen) : Type 0 where
   pub sent : n .sent ≡ padTo 64 0 (take (n .count) (n .sent))
 
 -- one more is chosen: a gossip, noted with a send count, of a size
-pub record NotedOne (n : Chosen) (g : W.Gossip ℕ) (s z : ℕ) (r : Chosen) : Type 0 where
+pub record NotedOne (n : Chosen) (g : W.Gossip Addr) (s z : ℕ) (r : Chosen) : Type 0 where
   pub packed : PackedChosen r
   pub chosen : chosenView r ≡ chosenView n ++ (g ∷ [])
   pub noted : noted (r .rows) (r .sent) (r .count) ≡ (g, s) ∷ noted (n .rows) (n .sent) (n .count)
@@ -135,9 +159,9 @@ pub record Open (t : Terms) (h : Heap) (n : Chosen) : Type 0 where
   pub size : t .«max_size» ≤ 1400
 
 -- what holds of a choosing at each step: good heaps, and chosen gossip that fits, 24 bytes each at least
-pub record Kept (t : M.Terms) (m : M.Choice ℕ) : Type 0 where
-  pub heaps : GoodHeaps ipv4 m
-  pub within : Within ipv4 24 t m
+pub record Kept (t : M.Terms) (m : M.Choice Addr) : Type 0 where
+  pub heaps : GoodHeaps here m
+  pub within : Within here 24 t m
   pub living : m .from-alive ≤ length (m .chosen)
   pub dead : m .from-deceased ≤ length (m .chosen)
 

@@ -2,6 +2,7 @@
 use address::Address;
 use heap::Entry;
 use heap::Heap;
+use model::Kind;
 use model::Settings;
 use types::Event;
 use types::Gossip;
@@ -11,29 +12,42 @@ ghost use mathlib.Core.List.{[]};
 ghost use Prim.Native.Nat.{ℕ, _+_, _≤_, _<_};
 ghost use lib.Dec.{eqb, leb, ltb};
 ghost use Rattle.model.specs.Rows.{one, pick};
-ghost use Rattle.model.specs.IPv4.{ipv4};
+ghost use Rattle.address.specs.Here.{here};
 ghost use Rattle.model.specs.Limit.{limitOf};
 ghost use Rattle.model.specs.Choose.{wasNoted, takeTop, tryHeap, gave, termsOf, choose as chosenFrom, deathIn, death as deathOf};
+ghost use Rattle.model.specs.declared.Kind.the-variants as kind;
 ghost use Rattle.model.specs.Node.{pushed};
-ghost use Rattle.model.specs.Sound.{AliveKind, DeceasedKind, inRange};
-ghost use Rattle.model.specs.Good.{GoodHeap};
+ghost use Rattle.model.specs.Sound.{inRange};
+ghost use Rattle.laws_choose.specs.GoodHeap.{GoodHeap};
 ghost use Rattle.types.specs.Views.{toGossip};
 ghost use Rattle.heap.specs.Views.{toEntry, heapView, packHeap, Packed};
-ghost use Rattle.disseminate.specs.Views.{noted as notedOf, toTerms, fromTerms, chosenNone, packChoice, PackedChosen, NotedOne, Room, NotedIf, topOf, Open, heldOr, fromFound};
+ghost use Rattle.disseminate.specs.Views.{noted as notedOf, toTerms, fromTerms, chosenNone, packChoice, PackedChosen, NotedOne, Room, NotedIf, topOf, Open, grown, heldOr, noNews, viewDisseminator, packDisseminator, PackedHeaps, fromFound};
 
-// A gossip pushed to a heap, or the heap as it came where it was full.
+// What a node spreads: what is known of the living, and deaths.
+pub struct Disseminator {
+    pub alive: Heap,
+    pub deceased: Heap,
+}
+
+// A gossip pushed to its heap, or the heaps as they came where that one was full.
 pub struct Pushed {
+    pub disseminator: Disseminator,
+    pub full: bool,
+}
+
+// The same of one heap.
+pub struct Grown {
     pub heap: Heap,
     pub full: bool,
 }
 
 // A gossip comes into a heap: not sent yet, with its size.
-pub fn push(h: Heap, g: Gossip) -> Pushed
+fn grow(h: Heap, g: Gossip) -> Grown
     requires { ⌜ Packed h ⌝ }
-    ensures { λ r. ⌜ r ≡ heldOr h (pushed ipv4 (toGossip g) (heapView h) []) ⌝ }
+    ensures { λ r. ⌜ r ≡ grown h (toGossip g) ⌝ }
 {
     if Heap::CAPACITY <= h.len {
-        return Pushed {
+        return Grown {
             heap: h,
             full: true,
         };
@@ -43,9 +57,54 @@ pub fn push(h: Heap, g: Gossip) -> Pushed
         sends: 0,
         size: types::size_of(g),
     };
-    Pushed {
+    Grown {
         heap: h.push(e),
         full: false,
+    }
+}
+
+impl Disseminator {
+    // Nothing to spread.
+    pub fn new() -> Disseminator
+        ensures { λ r. ⌜ r ≡ packDisseminator noNews ⌝ }
+    {
+        Disseminator {
+            alive: Heap::new(),
+            deceased: Heap::new(),
+        }
+    }
+
+    // An event's gossip comes into the heap of its kind.
+    pub fn push(self, kind: Kind, g: Gossip) -> Pushed
+        requires { ⌜ PackedHeaps self ⌝ }
+        ensures { λ r. ⌜ r ≡ heldOr self (pushed here kind (toGossip g) (viewDisseminator self) []) ⌝ }
+    {
+        let alive = self.alive;
+        let deceased = self.deceased;
+        match kind {
+            Kind::Alive => {
+                let grown = grow(alive, g);
+                let heap = grown.heap;
+                Pushed {
+                    disseminator: Disseminator {
+                        alive: heap,
+                        deceased,
+                    },
+                    full: grown.full,
+                }
+            },
+            Kind::Deceased => {
+                let grown = grow(deceased, g);
+                let heap = grown.heap;
+                Pushed {
+                    disseminator: Disseminator {
+                        alive,
+                        deceased: heap,
+                    },
+                    full: grown.full,
+                }
+            },
+        }
     }
 }
 
@@ -57,7 +116,7 @@ pub enum Found {
 
 // The number with which a gossip says that an address is dead.
 fn death_in(g: Gossip, a: Address) -> Found
-    ensures { λ r. ⌜ r ≡ fromFound (deathIn ipv4 a (toGossip g .event)) ⌝ }
+    ensures { λ r. ⌜ r ≡ fromFound (deathIn here a (toGossip g .event)) ⌝ }
 {
     let v = g.event;
     match v {
@@ -77,9 +136,9 @@ fn death_in(g: Gossip, a: Address) -> Found
 }
 
 // The number of the first entry, in the row's order, that says that an address is dead.
-pub fn death(h: Heap, a: Address) -> Found
+pub fn is_deceased(h: Heap, a: Address) -> Found
     requires { ⌜ Packed h ⌝ }
-    ensures { λ r. ⌜ r ≡ fromFound (deathOf ipv4 a (heapView h)) ⌝ }
+    ensures { λ r. ⌜ r ≡ fromFound (deathOf here a (heapView h)) ⌝ }
 {
     let es = h.entries;
     let len = h.len;
@@ -165,7 +224,7 @@ fn noted(
     sends: u64,
 ) -> bool
     requires { ⌜ count ≤ 64 ⌝ }
-    ensures { λ r. ⌜ r ≡ wasNoted ipv4 (toGossip g) sends (notedOf rows sent count) ⌝ }
+    ensures { λ r. ⌜ r ≡ wasNoted here (toGossip g) sends (notedOf rows sent count) ⌝ }
 {
     let mut i = count;
     while 0 < i {
@@ -182,7 +241,7 @@ fn noted(
 // Must an entry wait: would it pass the size, or was it noted?
 fn barred(n: Chosen, top: Entry, max_size: u64) -> bool
     requires { ⌜ PackedChosen n × (n .size ≤ 1400) × (top .size ≤ 1400) ⌝ }
-    ensures { λ r. ⌜ r ≡ (ltb «max_size» (n .size + top .size) || wasNoted ipv4 (toGossip (top .gossip)) (top .sends) (notedOf (n .rows) (n .sent) (n .count))) ⌝ }
+    ensures { λ r. ⌜ r ≡ (ltb «max_size» (n .size + top .size) || wasNoted here (toGossip (top .gossip)) (top .sends) (notedOf (n .rows) (n .sent) (n .count))) ⌝ }
 {
     if max_size < n.size + top.size {
         return true;
@@ -215,7 +274,7 @@ fn note(n: Chosen, top: Entry) -> Chosen
 // The heap after its top was taken: sent often enough it goes, else it sinks.
 fn after_top(h: Heap, top: Entry, limit: u64) -> Heap
     requires { ⌜ Packed h × (0 < h .len) × (top .sends ≤ 22) ⌝ }
-    ensures { λ r. ⌜ r ≡ packHeap (takeTop ipv4 limit (toEntry top) (heapView h) .heap) ⌝ }
+    ensures { λ r. ⌜ r ≡ packHeap (takeTop here limit (toEntry top) (heapView h) .heap) ⌝ }
 {
     let sends = top.sends + 1;
     if limit <= sends {
@@ -232,7 +291,7 @@ fn after_top(h: Heap, top: Entry, limit: u64) -> Heap
 // Does a heap give its top: has it one, and need that one not wait?
 fn gives(h: Heap, n: Chosen, t: Terms) -> bool
     requires { ⌜ Open t h n ⌝ }
-    ensures { λ r. ⌜ r ≡ gave ipv4 (tryHeap ipv4 (toTerms t) (n .size) (notedOf (n .rows) (n .sent) (n .count)) (heapView h)) ⌝ }
+    ensures { λ r. ⌜ r ≡ gave here (tryHeap here (toTerms t) (n .size) (notedOf (n .rows) (n .sent) (n .count)) (heapView h)) ⌝ }
 {
     if h.len == 0 {
         return false;
@@ -258,7 +317,7 @@ fn note_top(n: Chosen, h: Heap, given: bool) -> Chosen
 // The heap after its top was taken, where it is given.
 fn spend_top(h: Heap, given: bool, limit: u64) -> Heap
     requires { ⌜ (given ≡ true → Packed h × (0 < h .len) × (topOf h .sends ≤ 22)) ⌝ }
-    ensures { λ r. ⌜ r ≡ pick given (packHeap (takeTop ipv4 limit (toEntry (topOf h)) (heapView h) .heap)) h ⌝ }
+    ensures { λ r. ⌜ r ≡ pick given (packHeap (takeTop here limit (toEntry (topOf h)) (heapView h) .heap)) h ⌝ }
 {
     if !given {
         return h;
@@ -291,8 +350,8 @@ fn over(held: usize, from_alive: usize, from_deceased: usize, t: Terms) -> bool
 
 // Gossip for one message: rounds of one try at each heap, while one of them gives. Each but the last chooses one at least.
 pub fn choose(alive: Heap, deceased: Heap, t: Terms) -> Choice
-    requires { ⌜ Packed alive × Packed deceased × GoodHeap ipv4 AliveKind (heapView alive) × GoodHeap ipv4 DeceasedKind (heapView deceased) × (t .«max_size» ≤ 1400) × (t .limit ≤ 23) ⌝ }
-    ensures { λ r. ⌜ r ≡ packChoice (chosenFrom ipv4 (toTerms t) (heapView alive) (heapView deceased)) ⌝ }
+    requires { ⌜ Packed alive × Packed deceased × GoodHeap here kind.Alive (heapView alive) × GoodHeap here kind.Deceased (heapView deceased) × (t .«max_size» ≤ 1400) × (t .limit ≤ 23) ⌝ }
+    ensures { λ r. ⌜ r ≡ packChoice (chosenFrom here (toTerms t) (heapView alive) (heapView deceased)) ⌝ }
 {
     let mut a = alive;
     let mut d = deceased;
@@ -329,8 +388,8 @@ pub fn choose(alive: Heap, deceased: Heap, t: Terms) -> Choice
 
 // Gossip for one message of a node with so many members.
 pub fn get_gossip(alive: Heap, deceased: Heap, s: Settings, members: usize) -> Choice
-    requires { ⌜ Packed alive × Packed deceased × GoodHeap ipv4 AliveKind (heapView alive) × GoodHeap ipv4 DeceasedKind (heapView deceased) × (inRange s ≡ true) × (members ≤ 64) ⌝ }
-    ensures { λ r. ⌜ r ≡ packChoice (chosenFrom ipv4 (termsOf (s .«max_selected») (s .«max_size») (limitOf members (s .«send_constant»))) (heapView alive) (heapView deceased)) ⌝ }
+    requires { ⌜ Packed alive × Packed deceased × GoodHeap here kind.Alive (heapView alive) × GoodHeap here kind.Deceased (heapView deceased) × (inRange s ≡ true) × (members ≤ 64) ⌝ }
+    ensures { λ r. ⌜ r ≡ packChoice (chosenFrom here (termsOf (s .«max_selected») (s .«max_size») (limitOf members (s .«send_constant»))) (heapView alive) (heapView deceased)) ⌝ }
 {
     let limit = limit::send_limit(members, s.send_constant);
     let t = terms_of(s.max_selected, s.max_size, limit);

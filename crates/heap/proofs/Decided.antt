@@ -9,13 +9,14 @@ use native.Mathlib.Omega.{arith}
 use lib.Dec.{eqb, leb, ltb, eqb·suc-zero}
 use lib.ListN.{length, getD, set, length-set}
 use borrow.Author.Tests.{lt-ltb, le-ltb, le-leb, lt-leb, ltb-true, ltb-false, leb-true, leb-false, eqb-true, eqb-false, ne-eqb}
+use Rattle.address.specs.Here.{here}
 use Rattle.model.specs.Rows.{pick, swap}
 use Rattle.model.specs.Heap.{parent, climb, lower, down, rank}
 use lib.Seq.{getD-set-same, getD-set-other}
 use Rattle.heap.specs.Deciding.{nth, Agree, climbToIn, climbTo, lowerTo, downToIn, downTo}
-use Rattle.model.specs.HeapSwaps.{by, below-or-not, length-swap, swap-first, swap-second, swap-other}
-use Rattle.model.specs.HeapSteps.{climb-top, climb-step, climb-stop}
-use Rattle.model.specs.HeapSteps.{pick-elim, down-end, down-stop-at, down-step-at}
+use Rattle.laws_heap.specs.HeapSwaps.{by, below-or-not, length-swap, swap-first, swap-second, swap-other}
+use Rattle.laws_heap.specs.HeapSteps.{climb-top, climb-step, climb-stop}
+use Rattle.laws_heap.specs.HeapSteps.{pick-elim, down-end, down-stop-at, down-step-at}
 
 module _ (K : ℕ → ℕ) (m : ℕ) where
   to-enough : (n k p : ℕ) → p ≤ n → p ≤ k → climbToIn K m n p ≡ climbToIn K m k p

@@ -7,11 +7,12 @@ use native.Mathlib.Omega.{arith}
 use native.Mathlib.Numerals.{add-one}
 use lib.ListN.{length, getD, set, take, drop, replicate, length-append, length-set, length-map, drop-of-length-le, List·getD-append}
 use lib.Seq.{take-at, take-all, getD-at, length-take-le, set-append-left, set-split}
+use Rattle.address.specs.Here.{Addr}
 use Rattle.model.specs.Rows.{padTo}
-use Rattle.model.specs.Pad.{pad-step}
+use Rattle.laws.specs.Pad.{pad-step}
 use Rattle.model.specs.Heap.{climb, sink, bottom, push, sinkTop, removeTop}
-use Rattle.model.specs.HeapLaws.{push-length, sinkTop-length, removeTop-length}
-use Rattle.model.specs.HeapFrames.{climb-frame, sink-frame, bottom-frame, push-map, sinkTop-map, removeTop-map}
+use Rattle.laws_heap.specs.HeapLaws.{push-length, sinkTop-length, removeTop-length}
+use Rattle.laws_heap.specs.HeapFrames.{climb-frame, sink-frame, bottom-frame, push-map, sinkTop-map, removeTop-map}
 use Rattle.model.specs.Words as W
 use Rattle.heap.specs.declared.Entry.{Entry}
 use Rattle.heap.specs.declared.Heap.{Heap}
@@ -75,7 +76,7 @@ module _ (h : Heap) (p : Packed h) where
   used = take (h .len) (h .entries)
 
   -- a list of entries and how many there are, in a row
-  packs : (l : List Entry) (m : List (W.Entry ℕ)) → m ≡ map toEntry l → (k : ℕ) → k ≡ length l → (es : List Entry) → es ≡ padTo 128 noEntry l → _≡_ {A = Heap} (record { entries = es; len = k }) (packHeap m)
+  packs : (l : List Entry) (m : List (W.Entry Addr)) → m ≡ map toEntry l → (k : ℕ) → k ≡ length l → (es : List Entry) → es ≡ padTo 128 noEntry l → _≡_ {A = Heap} (record { entries = es; len = k }) (packHeap m)
   packs l m e k q es r =
       let a : es ≡ padTo 128 noEntry (map fromEntry m) = r ∙ ap (padTo 128 noEntry) (sym (ap (map fromEntry) e ∙ from-to-entries l)) in
       let b : k ≡ length m = q ∙ sym (ap length e ∙ length-map l toEntry) in

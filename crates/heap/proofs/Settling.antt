@@ -10,12 +10,13 @@ use lib.Dec.{eqb, leb, ltb}
 use lib.ListN.{length, getD, set, length-set}
 use lib.Seq.{ext-getD}
 use borrow.Author.Tests.{lt-ltb, le-ltb, le-leb, lt-leb, ltb-true, ltb-false, eqb-true, eqb-false, ne-eqb, eq-eqb}
+use Rattle.address.specs.Here.{here}
 use Rattle.model.specs.Rows.{pick, swap}
 use Rattle.model.specs.Heap.{parent, climb, lower, down}
 use Rattle.heap.specs.Deciding.{Agree, lowerTo, back, settleIn, settleTo}
-use Rattle.model.specs.HeapSwaps.{by, below-or-not, length-swap, swap-first, swap-second, swap-other}
-use Rattle.model.specs.HeapSteps.{climb-top, climb-step, climb-stop}
-use Rattle.model.specs.HeapSteps.{pick-elim, down-end, down-step-at}
+use Rattle.laws_heap.specs.HeapSwaps.{by, below-or-not, length-swap, swap-first, swap-second, swap-other}
+use Rattle.laws_heap.specs.HeapSteps.{climb-top, climb-step, climb-stop}
+use Rattle.laws_heap.specs.HeapSteps.{pick-elim, down-end, down-step-at}
 use Rattle.heap.proofs.Decided.{Under, lower-to-above, lower-to-within, lower-agrees}
 
 module _ (K : ℕ → ℕ) (m : ℕ) where

@@ -1,9 +1,9 @@
 -- Where an entry ends, decided on the ranks alone: K is the rank at a place.
 -- Assumes nothing.
 use mathlib.Core.Path.{_≡_}
-use mathlib.Core.Bool.{Bool, true, false, _&&_}
+use mathlib.Core.Bool.{Bool, _&&_}
 use mathlib.Core.List.{List}
-use Prim.Native.Nat.{ℕ, zero, suc, _+_, _-_, _*_, _/_, _≤_, _<_}
+use Prim.Native.Nat.{ℕ, zero, suc, _+_, _*_, _<_}
 use lib.Dec.{eqb, ltb, leb}
 use lib.ListN.{getD}
 use Rattle.model.specs.Rows.{pick}
@@ -43,9 +43,6 @@ downTo K g len p = downToIn K g len len p
 
 abbrev pub sinkTo : (ℕ → ℕ) → ℕ → ℕ → ℕ → ℕ
 sinkTo K m len p = downTo K (λ k. ltb k m) len p
-
-abbrev pub bottomTo : (ℕ → ℕ) → ℕ → ℕ → ℕ
-bottomTo K len p = downTo K (λ k. true) len p
 
 -- one that goes to the bottom and climbs back ends at t, the end from the place below, or at p if it climbs over that place too
 unfoldable pub back : (ℕ → ℕ) → ℕ → ℕ → ℕ → ℕ → ℕ

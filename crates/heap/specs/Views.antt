@@ -6,17 +6,18 @@ use Prim.Native.Nat.{ℕ, _+_, _-_, _≤_, _<_}
 use native.Mathlib.Omega.{arith}
 use lib.ListN.{length, take, replicate, length-map, length-take}
 use lib.Seq.{take-at, length-take-le}
+use Rattle.address.specs.Here.{Addr}
 use Rattle.model.specs.Rows.{padTo}
-use Rattle.model.specs.Pad.{length-padTo}
+use Rattle.laws.specs.Pad.{length-padTo}
 use Rattle.model.specs.Words as W
 use Rattle.types.specs.Views.{toGossip, fromGossip, noGossip, to-from-gossip, from-to-gossip}
 use Rattle.heap.specs.declared.Entry.{Entry}
 use Rattle.heap.specs.declared.Heap.{Heap}
 
-abbrev pub toEntry : Entry → W.Entry ℕ
+abbrev pub toEntry : Entry → W.Entry Addr
 toEntry e = record { gossip = toGossip (e .gossip); sends = e .sends; size = e .size }
 
-abbrev pub fromEntry : W.Entry ℕ → Entry
+abbrev pub fromEntry : W.Entry Addr → Entry
 fromEntry e = record { gossip = fromGossip (e .gossip); sends = e .sends; size = e .size }
 
 abbrev pub sends : Entry → ℕ
@@ -26,10 +27,10 @@ sends e = e .sends
 abbrev pub noEntry : Entry
 noEntry = record { gossip = noGossip; sends = 0; size = 0 }
 
-abbrev pub heapView : Heap → List (W.Entry ℕ)
+abbrev pub heapView : Heap → List (W.Entry Addr)
 heapView h = map toEntry (take (h .len) (h .entries))
 
-abbrev pub packHeap : List (W.Entry ℕ) → Heap
+abbrev pub packHeap : List (W.Entry Addr) → Heap
 packHeap l = record { entries = padTo 128 noEntry (map fromEntry l); len = length l }
 
 -- the row holds len entries, and every place behind them is unused
@@ -37,13 +38,13 @@ pub record Packed (h : Heap) : Type 0 where
   pub few : h .len ≤ 128
   pub row : h .entries ≡ padTo 128 noEntry (take (h .len) (h .entries))
 
-pub to-from-entry : (e : W.Entry ℕ) → toEntry (fromEntry e) ≡ e
+pub to-from-entry : (e : W.Entry Addr) → toEntry (fromEntry e) ≡ e
 to-from-entry e = λ i. record { gossip = to-from-gossip (e .gossip) i; sends = e .sends; size = e .size }
 
 pub from-to-entry : (e : Entry) → fromEntry (toEntry e) ≡ e
 from-to-entry e = λ i. record { gossip = from-to-gossip (e .gossip) i; sends = e .sends; size = e .size }
 
-pub to-from-entries : (l : List (W.Entry ℕ)) → map toEntry (map fromEntry l) ≡ l
+pub to-from-entries : (l : List (W.Entry Addr)) → map toEntry (map fromEntry l) ≡ l
 to-from-entries [] = refl
 to-from-entries (e ∷ l) = λ i. to-from-entry e i ∷ to-from-entries l i
 
@@ -64,10 +65,10 @@ pub view-length : (h : Heap) → Packed h → length (heapView h) ≡ h .len
 view-length h p = length-map (take (h .len) (h .entries)) toEntry ∙ used-length h p
 
 -- what is packed is read back, and what is read is packed again
-pub view-pack : (l : List (W.Entry ℕ)) → heapView (packHeap l) ≡ l
+pub view-pack : (l : List (W.Entry Addr)) → heapView (packHeap l) ≡ l
 view-pack l = ap (map toEntry) (take-at (map fromEntry l) _ (length l) (length-map l fromEntry)) ∙ to-from-entries l
 
-pub packed-pack : (l : List (W.Entry ℕ)) → length l ≤ 128 → Packed (packHeap l)
+pub packed-pack : (l : List (W.Entry Addr)) → length l ≤ 128 → Packed (packHeap l)
 packed-pack l h =
     record { few = h; row = sym (ap (padTo 128 noEntry) (take-at (map fromEntry l) _ (length l) (length-map l fromEntry))) }
 

@@ -1,28 +1,23 @@
 // Is a heap that was handed in sound? Its entries, its order and its unused places.
 use super::Entry;
 use super::Heap;
+use model::Kind;
 ghost use mathlib.Core.Path.{_≡_};
 ghost use mathlib.Core.Bool.{_&&_};
 ghost use mathlib.Core.List.{map};
 ghost use Prim.Native.Nat.{_≤_};
 ghost use lib.ListN.{take, drop};
-ghost use Rattle.model.specs.IPv4.{ipv4};
+ghost use Rattle.address.specs.Here.{here};
 ghost use Rattle.model.specs.Words.{unused, sendsOf};
 ghost use Rattle.model.specs.Rows.{every};
 ghost use Rattle.model.specs.Heap.{parent, inOrder};
 ghost use Rattle.model.specs.Sound.{ofKind, soundEntry, isUnused, soundHeap};
 ghost use Rattle.heap.specs.Views.{toEntry};
-ghost use Rattle.heap.specs.Kinds.{toKind, rowView};
-
-// Which events a heap holds.
-pub enum Kind {
-    Alive,
-    Deceased,
-}
+ghost use Rattle.heap.specs.Kinds.{rowView};
 
 // Is the kind of an event, 1 to 4, one that the heap holds?
 fn of_kind(kind: Kind, k: u64) -> bool
-    ensures { λ r. ⌜ r ≡ ofKind (toKind kind) k ⌝ }
+    ensures { λ r. ⌜ r ≡ ofKind kind k ⌝ }
 {
     match kind {
         Kind::Alive => {
@@ -37,7 +32,7 @@ fn of_kind(kind: Kind, k: u64) -> bool
 
 // An entry of its heap's kind, with its size, sent not too often, its addresses in range.
 fn sound_entry(e: Entry, kind: Kind) -> bool
-    ensures { λ r. ⌜ r ≡ soundEntry ipv4 (toKind kind) (toEntry e) ⌝ }
+    ensures { λ r. ⌜ r ≡ soundEntry here kind (toEntry e) ⌝ }
 {
     let g = e.gossip;
     let v = g.event;
@@ -56,7 +51,7 @@ fn sound_entry(e: Entry, kind: Kind) -> bool
 
 // Does an entry stand for an unused place?
 fn is_unused(e: Entry) -> bool
-    ensures { λ r. ⌜ r ≡ isUnused ipv4 (toEntry e) ⌝ }
+    ensures { λ r. ⌜ r ≡ isUnused here (toEntry e) ⌝ }
 {
     let g = e.gossip;
     let v = g.event;
@@ -83,7 +78,7 @@ fn above(place: usize) -> usize
 // Are the used places sound, and in heap order?
 fn used_sound(es: [Entry; Heap::CAPACITY], len: usize, kind: Kind) -> bool
     requires { ⌜ len ≤ 128 ⌝ }
-    ensures { λ r. ⌜ r ≡ (every (soundEntry ipv4 (toKind kind)) (map toEntry (take len es)) && inOrder unused sendsOf (map toEntry (take len es)) len) ⌝ }
+    ensures { λ r. ⌜ r ≡ (every (soundEntry here kind) (map toEntry (take len es)) && inOrder unused sendsOf (map toEntry (take len es)) len) ⌝ }
 {
     let mut i: usize = 0;
     while i < len {
@@ -104,7 +99,7 @@ fn used_sound(es: [Entry; Heap::CAPACITY], len: usize, kind: Kind) -> bool
 // Is every place from `len` on unused?
 fn rest_unused(es: [Entry; Heap::CAPACITY], len: usize) -> bool
     requires { ⌜ len ≤ 128 ⌝ }
-    ensures { λ r. ⌜ r ≡ every (isUnused ipv4) (map toEntry (drop len es)) ⌝ }
+    ensures { λ r. ⌜ r ≡ every (isUnused here) (map toEntry (drop len es)) ⌝ }
 {
     let mut i: usize = len;
     while i < Heap::CAPACITY {
@@ -119,7 +114,7 @@ fn rest_unused(es: [Entry; Heap::CAPACITY], len: usize) -> bool
 
 // Is a heap sound?
 pub fn heap_sound(h: Heap, kind: Kind) -> bool
-    ensures { λ r. ⌜ r ≡ soundHeap ipv4 (toKind kind) (rowView h) ⌝ }
+    ensures { λ r. ⌜ r ≡ soundHeap here kind (rowView h) ⌝ }
 {
     let len = h.len;
     if Heap::CAPACITY < len {

@@ -12,12 +12,12 @@ use lib.ListN.{length, getD, drop}
 use lib.Dec.{leb}
 use borrow.Author.Tests.{leb-true}
 use Rattle.model.specs.declared.Settings.{Settings}
-use Rattle.model.specs.Bools.{and-split}
+use Rattle.laws.specs.Bools.{and-split}
 use Rattle.model.specs.Bounds.{Room}
 use Rattle.model.specs.Words.{Address, Lawful, Event, Nothing, Joined, Recovered, Suspected, Deceased, Gossip, Action, Ping, PingReq, Ack, Timer, WaitState, SendingPing, WaitingForPingAck, SendingPingReq, WaitingForPingReqAck, Declaring, noTimer}
 use Rattle.model.specs.Node.{Node, Stored, loaded, lists, numbered}
 use Rattle.model.specs.Detector.{firstOver}
-use Rattle.model.specs.KeepsCalls.{first-over-in}
+use Rattle.laws_rules.specs.KeepsCalls.{first-over-in}
 use Rattle.model.specs.Calls.{created, create}
 use Rattle.history.specs.Moments.{Deed, Told, Sender, Added, Other, Moment, pingedDeed}
 use Rattle.history.specs.Ledger.{Tally, goes, asks, tally}

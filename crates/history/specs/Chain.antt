@@ -9,9 +9,9 @@ use native.Mathlib.Omega.{arith}
 use lib.ListN.{length, getD}
 use borrow.Author.Tests.{not-false}
 use Rattle.model.specs.Rows.{every}
-use Rattle.model.specs.Bools.{and-split}
+use Rattle.laws.specs.Bools.{and-split}
 use Rattle.model.specs.Answers.{Answer, done, refused, andThen}
-use Rattle.model.specs.After.{After, halts, gives, after-map, after-when, after-then, after-both}
+use Rattle.laws.specs.After.{After, halts, gives, after-map, after-when, after-then, after-both}
 use Rattle.model.specs.Words.{Address, Message, Lawful, Gossip, Action, Ping, PingReq, Ack, Wait, WaitState, SendingPing, WaitingForPingAck, SendingPingReq, WaitingForPingReqAck, Declaring, noTimer}
 use Rattle.model.specs.Members.{Members, Picked, pickFrom}
 use Rattle.model.specs.Node.{Node, Out, Effect, loaded, stored, withMembers, andMore, quiet, lists, spread}
@@ -19,9 +19,9 @@ use Rattle.model.specs.Handler.{item, gossip, admit, acked, answerTo, forwarded
 use Rattle.model.specs.Detector as D
 use Rattle.model.specs.Detector.{Stepped, pinged, sendPing, waited, suspect, pickGroup, sendPingReq, declare, due, firstOver, endAt}
 use Rattle.model.specs.Sound.{validGossip}
-use Rattle.model.specs.Good.{Good, loaded-stored}
-use Rattle.model.specs.Keeps.{Keeps, add-keeps}
-use Rattle.model.specs.KeepsCalls.{handle-keeps, step-keeps, end-keeps, first-over-in}
+use Rattle.laws_node.specs.Good.{Good, loaded-stored}
+use Rattle.laws_rules.specs.Keeps.{Keeps, add-keeps}
+use Rattle.laws_rules.specs.KeepsCalls.{handle-keeps, step-keeps, end-keeps, first-over-in}
 use Rattle.model.specs.Calls.{Outcome, StepOutcome, refuses, orAlready, whenDue, kept, keptStep, joins, addTests, messageTests, stepTests, timerTests, addPeer, message, detect, endsAt, endTimer, validAction, validState}
 use Rattle.history.specs.Moments.{Deed, Told, Sender, Added, Asked, Other, Moment, momentOf, moment, silent, traceThen, steppedTo, traceGossip, traceSpread, traceAdmit, traceAck, traceMessage, pingedDeed, tracePing, traceAsk, traceStep, traceAdd, traceTimer, endedDeed}
 use Rattle.history.specs.Histories.{World, Call, Add, Receive, Step, Timer, outcome, endingAt, momentsBy, moments}

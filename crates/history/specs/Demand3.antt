@@ -13,8 +13,8 @@ use Rattle.model.specs.Words.{Address, Lawful}
 use Rattle.model.specs.Members.{addrs}
 use Rattle.model.specs.Node.{Node, Stored, loaded, stored, fresh, lists, numbered}
 use Rattle.model.specs.Sound.{inRange, sound}
-use Rattle.model.specs.Counts.{has-is}
-use Rattle.model.specs.Good.{Good, good-sound, loaded-stored}
+use Rattle.laws.specs.Counts.{has-is}
+use Rattle.laws_node.specs.Good.{Good, good-sound, loaded-stored}
 use Rattle.model.specs.Calls.{Created, created, notCreated, create, createTests}
 use Rattle.history.specs.Ledger.{Tally, tally, begun}
 use Rattle.history.specs.Did.{Kept}

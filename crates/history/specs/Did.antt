@@ -10,12 +10,12 @@ use lib.Dec.{leb}
 use borrow.Author.Tests.{leb-true, lt-ltb, le-ltb}
 use Rattle.model.specs.declared.State.the-variants.{Alive}
 use Rattle.model.specs.Rows.{one, pick, has}
-use Rattle.model.specs.Bools.{and-split}
+use Rattle.laws.specs.Bools.{and-split}
 use Rattle.model.specs.Words.{Address, Lawful, Member, Deceased}
 use Rattle.model.specs.Members.{Members, addrs, listed, held, added, remove, update, strike, put}
 use Rattle.model.specs.Node.{Node, Out, lists, numbered}
-use Rattle.model.specs.Whole.{Whole, added-whole, remove-whole, update-whole, strike-addrs, addrs-append}
-use Rattle.model.specs.Held.{has-append, held-old, held-new, has-put, has-erase, held-put, held-put-other, held-strike}
+use Rattle.laws_list.specs.Whole.{Whole, added-whole, remove-whole, update-whole, strike-addrs, addrs-append}
+use Rattle.laws_list.specs.Held.{has-append, held-old, held-new, has-put, has-erase, held-put, held-put-other, held-strike}
 use Rattle.history.specs.Moments.{Deed, Told, Moment, momentOf}
 use Rattle.history.specs.Ledger.{Tally, inside, comes, goes, asks, askedAt, reported, step}
 

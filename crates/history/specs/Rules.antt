@@ -3,26 +3,28 @@
 use mathlib.Core.Path.{_≡_, refl, ap, sym, _∙_}
 use mathlib.Core.Bool.{Bool, true, false, _&&_}
 use mathlib.Core.List.{List, [], _∷_}
+use mathlib.Core.Option.{Option}
 use Prim.Native.Nat.{ℕ, _≤_, _<_, max}
 use native.Mathlib.Omega.{arith}
 use lib.ListN.{length, getD}
-use lib.Dec.{ltb, leb}
-use borrow.Author.Tests.{leb-false, leb-true, ltb-true}
+use lib.Dec.{leb}
+use borrow.Author.Tests.{leb-false, le-leb, lt-leb}
+use Rattle.model.specs.declared.Kind.{Kind}
+use Rattle.model.specs.declared.Kind.the-variants as kind
 use Rattle.model.specs.declared.State.{State}
 use Rattle.model.specs.declared.State.the-variants as state
 use Rattle.model.specs.Rows.{pick, removeAt}
-use Rattle.model.specs.Answers.{Answer}
-use Rattle.model.specs.Bools.{and-split}
-use Rattle.model.specs.After.{After, halts, gives, after-map, after-when, after-draw, after-then}
-use Rattle.model.specs.Words.{Address, Lawful, Event, Nothing, Joined, Recovered, Suspected, Deceased, Gossip, Entry, Timer, noTimer}
+use Rattle.model.specs.Answers.{Answer, done}
+use Rattle.laws.specs.After.{After, halts, gives, after-map, after-when, after-draw, after-then}
+use Rattle.model.specs.Words.{Address, Lawful, Event, Nothing, Joined, Recovered, Suspected, Deceased, Gossip, Timer, noTimer, partsOf}
 use Rattle.model.specs.Members.{Members, added, add, remove, update}
-use Rattle.model.specs.Node.{Node, Out, withMembers, withHeaps, withTimers, quiet, pushed, emitAlive, emitDeceased, lists, numbered, stateOf, change, leave}
-use Rattle.model.specs.Handler.{says, enter, joinedAt, joined, recovered, believed, suspectedOther, suspected, deceased, item, admit, acked}
+use Rattle.model.specs.Node.{Disseminator, Node, Out, withMembers, withDisseminator, withTimers, quiet, pushed, emit, lists, numbered, stateOf, heldDeath, change, leave}
+use Rattle.model.specs.Handler.{Verdict, Enter, Raise, Recover, Suspect, Bury, Refute, Silent, Emits, listAfter, newsOf, act, item, admit, acked}
 use Rattle.model.specs.Detector.{suspect, ended, endAt}
-use Rattle.model.specs.Keeps.{after-plusOne, after-death}
-use Rattle.model.specs.Whole.{Whole}
+use Rattle.laws_rules.specs.Judged.{believed-le, Judged, skipped, joined-at-end, joined-low, joined-raises, joined-enters, recovered-unknown, recovered-low, recovered-recovers, own-at-end, own-refutes, suspected-unknown, suspected-equal, suspected-low, suspected-suspects, deceased-unknown, deceased-low, deceased-buries, judged, SenderJudged, listed-already, sender-at-end, sender-enters, sender-judged}
+use Rattle.laws_list.specs.Whole.{Whole}
 use Rattle.history.specs.Moments.{Deed, Told, Sender, Added, Asked, Other, endedDeed}
-use Rattle.history.specs.Ledger.{comes, goes, asks, reported}
+use Rattle.history.specs.Ledger.{comes, goes, asks, about, reported}
 use Rattle.history.specs.Did.{Did, stay, put-did, came-did, gone-did}
 
 pub never : {B : Type 0} → _≡_ {A = Bool} false true → B
@@ -64,17 +66,11 @@ module _ {A : Type 0} (address : Address A) (lawful : Lawful address) (a : A) wh
   Runs s d x = After (Did address a s d) x
 
   -- an emitted event changes a heap, and no fact here reads a heap
-  alive-did : (g : Gossip A) (s s′ : Node A) (d : Deed A) (ds : List ℕ)
-      → ((h : List (Entry A)) → Did address a s d (record { node = withHeaps s′ h (s′ .deceased); said = g ∷ [] }))
-      → Runs s d (emitAlive address g s′ ds)
-  unfolding emitAlive pushed
-  alive-did g s s′ d ds f = after-then {P = λ _. Unit {0}} (after-when (λ _. halts) (λ _. gives tt)) (λ h rest _. gives (f h))
-
-  deceased-emit-did : (g : Gossip A) (s s′ : Node A) (d : Deed A) (ds : List ℕ)
-      → ((h : List (Entry A)) → Did address a s d (record { node = withHeaps s′ (s′ .alive) h; said = g ∷ [] }))
-      → Runs s d (emitDeceased address g s′ ds)
-  unfolding emitDeceased pushed
-  deceased-emit-did g s s′ d ds f = after-then {P = λ _. Unit {0}} (after-when (λ _. halts) (λ _. gives tt)) (λ h rest _. gives (f h))
+  emit-did : (k : Kind) (g : Gossip A) (s s′ : Node A) (d : Deed A) (ds : List ℕ)
+      → ((x : Disseminator A) → Did address a s d (record { node = withDisseminator s′ x; said = g ∷ [] }))
+      → Runs s d (emit address k g s′ ds)
+  unfolding emit pushed
+  emit-did k g s s′ d ds f = after-then {P = λ _. Unit {0}} (after-when (λ _. halts) (λ _. gives tt)) (λ x rest _. gives (f x))
 
   -- nothing done and nothing said
   idle : (s : Node A) (d : Deed A) (ds : List ℕ) → Whole (address .same) (s .members) → (lists address a s ≡ true → goes address a d s ≡ false)
@@ -88,71 +84,30 @@ module _ {A : Type 0} (address : Address A) (lawful : Lawful address) (a : A) wh
   unfolding add
   add-gives b n m ds = after-when (λ _. halts) (λ e. after-draw ds (λ x rest. gives (x, refl, leb-false 64 (length (m .table)) e)))
 
+  -- Carrying out a verdict, by what it does to the list.
+  -- an address comes in
   enter-did : (b : A) (n : ℕ) (s : Node A) (d : Deed A) (ds : List ℕ) → Whole (address .same) (s .members) → lists address b s ≡ false
-      → goes address a d s ≡ false → comes address a d ≡ address .same a b → asks address a d ≡ false → Runs s d (enter address b n s ds)
-  unfolding enter
+      → goes address a d s ≡ false → comes address a d ≡ address .same a b → asks address a d ≡ false → Runs s d (act address (Enter b n) s ds)
+  unfolding act listAfter newsOf
   enter-did b n s d ds w f g c k =
       after-then (add-gives b n (s .members) ds)
-      (λ r rest p. alive-did (says address Joined s b n) s (withMembers s r) d rest
-      (λ h. came-did address a lawful b n (p .0) s d _ w (p .1) refl f (p .2) g c k (said-at b n) (said-off b n)))
+      (λ r rest p. emit-did kind.Alive _ s (withMembers s r) d rest
+      (λ x. came-did address a lawful b n (p .0) s d _ w (p .1) refl f (p .2) g c k (said-at b n) (said-off b n)))
 
-  joined-did : (f b : A) (n : ℕ) (s : Node A) (ds : List ℕ) → Whole (address .same) (s .members) → Runs s (Told (Joined f b n)) (joined address b n s ds)
-  unfolding joined joinedAt change
-  joined-did f b n s ds w =
-      after-death _ (λ least.
-      after-when
-      (λ e.
-      after-when
-      (λ h. alive-did _ s _ (Told (Joined f b n)) ds
-      (λ _. put-did address a lawful (record { addr = b; state = stateOf address b s; number = max least n }) (s .members) s (Told (Joined f b n)) _ w refl refl refl refl
-      (apart b s e)
-      (λ l q _. omega (arith, same-number b s q, ltb-true (numbered address b s) (max least n) h))
-      never
-      (said-at b (max least n))
-      (said-off b (max least n))))
-      (λ h. idle s (Told (Joined f b n)) ds w (λ _. refl) (apart b s e) refl))
-      (λ e. enter-did b (max least n) s (Told (Joined f b n)) ds w e refl refl refl))
-
-  recovered-did : (f b : A) (n : ℕ) (s : Node A) (ds : List ℕ) → Whole (address .same) (s .members) → Runs s (Told (Recovered f b n)) (recovered address b n s ds)
-  unfolding recovered change
-  recovered-did f b n s ds w =
-      after-when
-      (λ h. alive-did _ s _ (Told (Recovered f b n)) ds
-      (λ _. put-did address a lawful (record { addr = b; state = state.Alive; number = n }) (s .members) s (Told (Recovered f b n)) _ w refl refl refl refl (λ _. refl)
-      (λ l q _. omega (arith, same-number b s q, ltb-true (numbered address b s) n (and-split (lists address b s) (ltb (numbered address b s) n) h .1)))
-      never
-      (said-at b n)
-      (said-off b n)))
-      (λ h. idle s (Told (Recovered f b n)) ds w (λ _. refl) (λ _. refl) refl)
-
-  -- the test of a suspicion asks for a number no lower
-  believed-le : (st : State) (x n : ℕ) → believed address st x n ≡ true → x ≤ n
-  unfolding believed
-  believed-le state.Alive x n e = leb-true x n e
-  believed-le state.Pending x n e = omega (arith, ltb-true x n e)
-  believed-le state.Suspected x n e = omega (arith, ltb-true x n e)
-
-  suspected-did : (f b : A) (n : ℕ) (s : Node A) (ds : List ℕ) → Whole (address .same) (s .members) → Runs s (Told (Suspected f b n)) (suspected address b n s ds)
-  unfolding suspected suspectedOther change
-  suspected-did f b n s ds w =
-      after-when
-      (λ e. after-plusOne n (λ next. alive-did _ s s (Told (Suspected f b n)) ds
-      (λ _. stay address a lawful s (Told (Suspected f b n)) _ w refl refl (λ _. refl) (λ _. refl) refl
-      (λ q _. omega (arith, said-off (s .own) next (same-false (s .own) a q))))))
-      (λ e.
-      after-when
-      (λ h. alive-did _ s _ (Told (Suspected f b n)) ds
-      (λ _. put-did address a lawful (record { addr = b; state = state.Suspected; number = n }) (s .members) s (Told (Suspected f b n)) _ w refl refl refl refl (λ _. refl)
-      (λ l q _. omega (
-        arith,
-        same-number b s q,
-        believed-le (stateOf address b s) (numbered address b s) n
-            (and-split (lists address b s) (believed address (stateOf address b s) (numbered address b s) n) h .1),
-      ))
-      never
-      (said-at b n)
-      (said-off b n)))
-      (λ h. idle s (Told (Suspected f b n)) ds w (λ _. refl) (λ _. refl) refl))
+  -- a listed address is given a number that is no lower
+  updated-did : (b : A) (n : ℕ) (st : State) (v : Verdict A) (e : Event A) (s : Node A) (d : Deed A) (ds : List ℕ)
+      → listAfter address v (s .members) ds ≡ done (update (address .same) (record { addr = b; state = st; number = n }) (s .members)) ds → newsOf address v (s .own) ≡ Emits kind.Alive e
+      → about address a e ≡ pick (address .same a b) n 0 → Whole (address .same) (s .members) → numbered address b s ≤ n
+      → goes address a d s ≡ false → (lists address a s ≡ false → comes address a d ≡ false) → asks address a d ≡ false → Runs s d (act address v s ds)
+  unfolding act
+  updated-did b n st v e s d ds l u r w h g c k =
+      rw (l, u)
+      (emit-did kind.Alive _ s _ d ds
+      (λ x. put-did address a lawful (record { addr = b; state = st; number = n }) (s .members) s d _ w refl refl refl g c
+      (λ _ q _. omega (arith, same-number b s q))
+      (λ q. never (sym k ∙ q))
+      (λ q. rw r (said-at b n q))
+      (λ q. rw r (said-off b n q))))
 
   -- a death that the rule takes is a departure of its address, and of no other
   departs : (b : A) (n : ℕ) (s : Node A) → leb (numbered address b s) n ≡ true → (address .same a b && leb (numbered address a s) n) ≡ address .same a b
@@ -162,37 +117,68 @@ module _ {A : Type 0} (address : Address A) (lawful : Lawful address) (a : A) wh
         | false ↦ λ q. refl
       ]) refl
 
-  -- and one that it leaves is none
-  remains : (b : A) (n : ℕ) (s : Node A) → (lists address b s && leb (numbered address b s) n) ≡ false → lists address a s ≡ true
-      → (address .same a b && leb (numbered address a s) n) ≡ false
-  remains b n s h l =
+  -- and one that it leaves is none: its address is another, or its number is too low
+  not-it : (b : A) (n : ℕ) (s : Node A) → address .same a b ≡ false → (address .same a b && leb (numbered address a s) n) ≡ false
+  not-it b n s q = rw q refl
+
+  too-low : (b : A) (n : ℕ) (s : Node A) → n < numbered address b s → (address .same a b && leb (numbered address a s) n) ≡ false
+  too-low b n s h =
       (elim (address .same a b) as (λ u. address .same a b ≡ u → (u && leb (numbered address a s) n) ≡ false) [
-        | true ↦ λ q. let y : lists address b s ≡ true = rw (lawful .test .same-eq a b q) at l in rw (same-number b s q) (rw y at h)
+        | true ↦ λ q. rw (same-number b s q) (lt-leb (numbered address b s) n h)
         | false ↦ λ q. refl
       ]) refl
 
-  deceased-did : (f b : A) (n : ℕ) (s : Node A) (ds : List ℕ) → Whole (address .same) (s .members) → Runs s (Told (Deceased f b n)) (deceased address b n s ds)
-  unfolding deceased leave
-  deceased-did f b n s ds w =
-      after-when
-      (λ h. let p = and-split (lists address b s) (leb (numbered address b s) n) h in
-      deceased-emit-did _ s _ (Told (Deceased f b n)) ds
-      (λ _. gone-did address a lawful b s (Told (Deceased f b n)) _ w refl refl (p .0) (departs b n s (p .1)) refl refl (said-off b n)))
-      (λ h. idle s (Told (Deceased f b n)) ds w (remains b n s h) (λ _. refl) refl)
+  -- a listed address is taken out
+  bury-did : (f b : A) (n : ℕ) (s : Node A) (ds : List ℕ) → Whole (address .same) (s .members) → lists address b s ≡ true → numbered address b s ≤ n → Runs s (Told (Deceased f b n)) (act address (Bury b n) s ds)
+  unfolding act listAfter newsOf
+  bury-did f b n s ds w l h =
+      emit-did kind.Deceased _ s _ (Told (Deceased f b n)) ds
+      (λ x. gone-did address a lawful b s (Told (Deceased f b n)) _ w refl refl l (departs b n s (le-leb (numbered address b s) n h)) refl refl (said-off b n))
+
+  -- the own address answers a suspicion
+  refute-did : (f b : A) (n next : ℕ) (s : Node A) (ds : List ℕ) → Whole (address .same) (s .members) → Runs s (Told (Suspected f b n)) (act address (Refute next) s ds)
+  unfolding act listAfter newsOf
+  refute-did f b n next s ds w =
+      emit-did kind.Alive _ s s (Told (Suspected f b n)) ds
+      (λ x. stay address a lawful s (Told (Suspected f b n)) _ w refl refl (λ _. refl) (λ _. refl) refl
+      (λ q _. omega (arith, said-off (s .own) next (same-false (s .own) a q))))
+
+  judged-did : (e : Event A) (v : Verdict A) (s : Node A) (x : Option ℕ) (ds : List ℕ) → Whole (address .same) (s .members) → Judged address (s .own) (s .members .table) x e v → Runs s (Told e) (act address v s ds)
+  unfolding listAfter newsOf act
+  judged-did _ _ s x ds w skipped = idle s (Told Nothing) ds w (λ _. refl) (λ _. refl) refl
+  judged-did _ _ s x ds w (joined-at-end e) = halts
+  judged-did _ _ s x ds w (joined-low {f = f} {a = b} {n = n} least e l h) = idle s (Told (Joined f b n)) ds w (λ _. refl) (apart b s l) refl
+  judged-did _ _ s x ds w (joined-raises {f = f} {a = b} {n = n} least e l h) =
+      updated-did b (max least n) (stateOf address b s) (Raise b (max least n)) (Joined (s .own) b (max least n)) s (Told (Joined f b n)) ds refl refl refl w (omega arith) refl (apart b s l) refl
+  judged-did _ _ s x ds w (joined-enters {f = f} {a = b} {n = n} least e l) = enter-did b (max least n) s (Told (Joined f b n)) ds w l refl refl refl
+  judged-did _ _ s x ds w (recovered-unknown {f = f} {a = b} {n = n} l) = idle s (Told (Recovered f b n)) ds w (λ _. refl) (λ _. refl) refl
+  judged-did _ _ s x ds w (recovered-low {f = f} {a = b} {n = n} l h) = idle s (Told (Recovered f b n)) ds w (λ _. refl) (λ _. refl) refl
+  judged-did _ _ s x ds w (recovered-recovers {f = f} {a = b} {n = n} l h) =
+      updated-did b n state.Alive (Recover b n) (Recovered (s .own) b n) s (Told (Recovered f b n)) ds refl refl refl w (omega arith) refl (λ _. refl) refl
+  judged-did _ _ s x ds w (own-at-end o e) = halts
+  judged-did _ _ s x ds w (own-refutes {f = f} {a = b} {n = n} next o e) = refute-did f b n next s ds w
+  judged-did _ _ s x ds w (suspected-unknown {f = f} {a = b} {n = n} o l) = idle s (Told (Suspected f b n)) ds w (λ _. refl) (λ _. refl) refl
+  judged-did _ _ s x ds w (suspected-equal {f = f} {a = b} {n = n} o l h e) = idle s (Told (Suspected f b n)) ds w (λ _. refl) (λ _. refl) refl
+  judged-did _ _ s x ds w (suspected-low {f = f} {a = b} {n = n} o l h) = idle s (Told (Suspected f b n)) ds w (λ _. refl) (λ _. refl) refl
+  judged-did _ _ s x ds w (suspected-suspects {f = f} {a = b} {n = n} o l h) =
+      updated-did b n state.Suspected (Suspect b n) (Suspected (s .own) b n) s (Told (Suspected f b n)) ds refl refl refl w (believed-le (stateOf address b s) (numbered address b s) n h) refl (λ _. refl) refl
+  judged-did _ _ s x ds w (deceased-unknown {f = f} {a = b} {n = n} l) = idle s (Told (Deceased f b n)) ds w (λ p. not-it b n s (absent b s l p)) (λ _. refl) refl
+  judged-did _ _ s x ds w (deceased-low {f = f} {a = b} {n = n} l h) = idle s (Told (Deceased f b n)) ds w (λ _. too-low b n s h) (λ _. refl) refl
+  judged-did _ _ s x ds w (deceased-buries {f = f} {a = b} {n = n} l h) = bury-did f b n s ds w l h
 
   pub item-did : (e : Event A) (s : Node A) (ds : List ℕ) → Whole (address .same) (s .members) → Runs s (Told e) (item address e s ds)
-  item-did Nothing s ds w = idle s (Told Nothing) ds w (λ _. refl) (λ _. refl) refl
-  item-did (Joined f b n) s ds w = joined-did f b n s ds w
-  item-did (Recovered f b n) s ds w = recovered-did f b n s ds w
-  item-did (Suspected f b n) s ds w = suspected-did f b n s ds w
-  item-did (Deceased f b n) s ds w = deceased-did f b n s ds w
+  unfolding item
+  item-did e s ds w = judged-did e _ s _ ds w (judged address (s .own) (s .members .table) (heldDeath address (partsOf address e .subject) s) e)
+
+  sender-did : (b : A) (v : Verdict A) (s : Node A) (x : Option ℕ) (ds : List ℕ) → Whole (address .same) (s .members) → SenderJudged address (s .own) (s .members .table) x b v → Runs s (Sender b) (act address v s ds)
+  unfolding listAfter newsOf act
+  sender-did b _ s x ds w (listed-already l) = idle s (Sender b) ds w (λ _. refl) (apart b s l) refl
+  sender-did b _ s x ds w (sender-at-end l e) = halts
+  sender-did b _ s x ds w (sender-enters n l e) = enter-did b n s (Sender b) ds w l refl refl refl
 
   pub admit-did : (b : A) (s : Node A) (ds : List ℕ) → Whole (address .same) (s .members) → Runs s (Sender b) (admit address b s ds)
   unfolding admit
-  admit-did b s ds w =
-      after-when
-      (λ e. idle s (Sender b) ds w (λ _. refl) (apart b s e) refl)
-      (λ e. after-death _ (λ n. enter-did b n s (Sender b) ds w e refl refl refl))
+  admit-did b s ds w = sender-did b _ s _ ds w (sender-judged address (s .own) (s .members .table) (heldDeath address b s) b)
 
   -- a record is replaced at the number held, and nothing is said: Alive after an Ack, Pending after a ping
   pub held-did : (b : A) (st : State) (n : ℕ) (x : Members A) (s : Node A) (d : Deed A) (o : Out A) → Whole (address .same) x → x .table ≡ s .members .table
@@ -215,7 +201,7 @@ module _ {A : Type 0} (address : Address A) (lawful : Lawful address) (a : A) wh
   pub suspect-did : (b : A) (n : ℕ) (s : Node A) (ds : List ℕ) → Whole (address .same) (s .members) → Runs s (Asked b n) (suspect address b n s ds)
   unfolding suspect change
   suspect-did b n s ds w =
-      alive-did _ s _ (Asked b n) ds
+      emit-did kind.Alive _ s _ (Asked b n) ds
       (λ _. put-did address a lawful (record { addr = b; state = state.Suspected; number = n }) (s .members) s (Asked b n) _ w refl refl refl refl (λ _. refl)
       (λ l q k. never (sym k ∙ q)) (λ q. (q, refl)) (said-at b n) (said-off b n))
 
@@ -230,11 +216,11 @@ module _ {A : Type 0} (address : Address A) (lawful : Lawful address) (a : A) wh
   unfolding ended leave
   ended-did t ts s ds w =
       (elim (lists address (t .addr) s) as (λ u. lists address (t .addr) s ≡ u → Runs s (endedDeed address t)
-      (emitDeceased address (says address Deceased s (t .addr) (t .number))
+      (emit address kind.Deceased (record { event = Deceased (s .own) (t .addr) (t .number) })
       (pick u (withMembers (withTimers s ts) (remove (address .same) (t .addr) (s .members))) (withTimers s ts)) ds)) [
-        | true ↦ λ e. deceased-emit-did _ s _ (endedDeed address t) ds
+        | true ↦ λ e. emit-did kind.Deceased _ s _ (endedDeed address t) ds
             (λ _. gone-did address a lawful (t .addr) s (endedDeed address t) _ w refl refl e refl refl refl (said-off (t .addr) (t .number)))
-        | false ↦ λ e. deceased-emit-did _ s _ (endedDeed address t) ds
+        | false ↦ λ e. emit-did kind.Deceased _ s _ (endedDeed address t) ds
             (λ _. stay address a lawful s (endedDeed address t) _ w refl refl (absent (t .addr) s e) (λ _. refl) refl
             (λ _ l. omega (arith, said-off (t .addr) (t .number) (absent (t .addr) s e l))))
       ]) refl

@@ -10,20 +10,22 @@ use borrow.Author.Tests.{not-false}
 use Rattle.model.specs.declared.Reply.{Reply}
 use Rattle.model.specs.declared.Reply.the-variants.{Done, Already, NotDue, Refused}
 use Rattle.model.specs.declared.Settings.{Settings}
+use Rattle.model.specs.declared.Kind.{Kind}
+use Rattle.model.specs.declared.Kind.the-variants as kind
 use Rattle.model.specs.Rows.{pick, every, removeAt}
-use Rattle.model.specs.Bools.{and-split}
+use Rattle.laws.specs.Bools.{and-split}
 use Rattle.model.specs.Answers.{Answer, done, refused, andThen}
-use Rattle.model.specs.After.{After, halts, gives, after-map, after-when, after-then, after-both}
-use Rattle.model.specs.Words.{Address, Lawful, Event, Nothing, Joined, Recovered, Suspected, Deceased, Gossip, Message, Action, Ping, PingReq, Ack, Timer, Wait, WaitState, SendingPing, WaitingForPingAck, SendingPingReq, WaitingForPingReqAck, Declaring, noTimer}
-use Rattle.model.specs.Members.{Members, Picked, add, pickFrom}
-use Rattle.model.specs.Node.{Node, Out, Effect, Stored, loaded, stored, fresh, withMembers, withTimers, andMore, quiet, pushed, emitAlive, emitDeceased, lists, change, leave, spread}
+use Rattle.laws.specs.After.{After, halts, gives, after-map, after-when, after-then, after-both}
+use Rattle.model.specs.Words.{Address, Lawful, Event, Deceased, Gossip, Message, Action, Ping, PingReq, Ack, Timer, Wait, WaitState, SendingPing, WaitingForPingAck, SendingPingReq, WaitingForPingReqAck, Declaring, noTimer}
+use Rattle.model.specs.Members.{Members, Picked, pickFrom}
+use Rattle.model.specs.Node.{Node, Out, Effect, Stored, loaded, stored, fresh, withMembers, withTimers, andMore, quiet, pushed, emit, lists, change, leave, spread}
 use Rattle.model.specs.Handler as handler
 use Rattle.model.specs.Detector as D
 use Rattle.model.specs.Detector.{Stepped}
 use Rattle.model.specs.Sound.{validGossip}
-use Rattle.model.specs.Good.{Good, loaded-stored}
-use Rattle.model.specs.Keeps.{Keeps, add-keeps, after-plusOne, after-death}
-use Rattle.model.specs.KeepsCalls.{handle-keeps, step-keeps, end-keeps, first-over-in}
+use Rattle.laws_node.specs.Good.{Good, loaded-stored}
+use Rattle.laws_rules.specs.Keeps.{Keeps, add-keeps}
+use Rattle.laws_rules.specs.KeepsCalls.{handle-keeps, step-keeps, end-keeps, first-over-in}
 use Rattle.model.specs.Calls as calls
 use Rattle.history.specs.Ledger.{Tally, tally, begun}
 use Rattle.history.specs.Histories.{World, Call, Add, Receive, Step, outcome, worldOf, run, moments, start}
@@ -94,33 +96,29 @@ module _ {A : Type 0} (address : Address A) where
   abbrev Alone : List (Timer A) → Answer (Out A) → Type 0
   Alone ts x = After (λ o. o .node .timers ≡ ts) x
 
-  alive-alone : (g : Gossip A) (s : Node A) (ds : List ℕ) → Alone (s .timers) (emitAlive address g s ds)
-  unfolding emitAlive pushed
-  alive-alone g s ds = after-then {P = λ _. Unit {0}} (after-when (λ _. halts) (λ _. gives tt)) (λ h rest _. gives refl)
-
-  deceased-alone : (g : Gossip A) (s : Node A) (ds : List ℕ) → Alone (s .timers) (emitDeceased address g s ds)
-  unfolding emitDeceased pushed
-  deceased-alone g s ds = after-then {P = λ _. Unit {0}} (after-when (λ _. halts) (λ _. gives tt)) (λ h rest _. gives refl)
+  emit-alone : (k : Kind) (g : Gossip A) (s : Node A) (ds : List ℕ) → Alone (s .timers) (emit address k g s ds)
+  unfolding emit pushed
+  emit-alone k g s ds = after-then {P = λ _. Unit {0}} (after-when (λ _. halts) (λ _. gives tt)) (λ d rest _. gives refl)
 
   quiet-alone : (s : Node A) (ds : List ℕ) → Alone (s .timers) (quiet s ds)
   unfolding quiet
   quiet-alone s ds = gives refl
 
-  enter-alone : (a : A) (n : ℕ) (s : Node A) (ds : List ℕ) → Alone (s .timers) (handler.enter address a n s ds)
-  unfolding handler.enter
-  enter-alone a n s ds = from (add (address .same) a n (s .members) ds)
+  tell-alone : (n : handler.News A) (s : Node A) (ds : List ℕ) → Alone (s .timers) (handler.tell address n s ds)
+  tell-alone handler.Silent s ds = quiet-alone s ds
+  tell-alone (handler.Emits k e) s ds = emit-alone k _ s ds
+
+  act-alone : (v : handler.Verdict A) (s : Node A) (ds : List ℕ) → Alone (s .timers) (handler.act address v s ds)
+  unfolding handler.act
+  act-alone v s ds = from (handler.listAfter address v (s .members) ds)
     where
-      from : (x : Answer (Members A)) → Alone (s .timers) (andThen x λ m rest. emitAlive address (handler.says address Joined s a n) (withMembers s m) rest)
+      from : (x : Answer (Members A)) → Alone (s .timers) (andThen x λ m rest. handler.tell address (handler.newsOf address v (s .own)) (withMembers s m) rest)
       from (refused r) = halts
-      from (done m rest) = alive-alone _ (withMembers s m) rest
+      from (done m rest) = tell-alone (handler.newsOf address v (s .own)) (withMembers s m) rest
 
   item-alone : (e : Event A) (s : Node A) (ds : List ℕ) → Alone (s .timers) (handler.item address e s ds)
-  unfolding handler.joined handler.joinedAt handler.recovered handler.suspected handler.suspectedOther handler.deceased change leave
-  item-alone Nothing s ds = quiet-alone s ds
-  item-alone (Joined f a n) s ds = after-death _ (λ least. after-when (λ _. after-when (λ _. alive-alone _ _ ds) (λ _. quiet-alone s ds)) (λ _. enter-alone a _ s ds))
-  item-alone (Recovered f a n) s ds = after-when (λ _. alive-alone _ _ ds) (λ _. quiet-alone s ds)
-  item-alone (Suspected f a n) s ds = after-when (λ _. after-plusOne n (λ next. alive-alone _ s ds)) (λ _. after-when (λ _. alive-alone _ _ ds) (λ _. quiet-alone s ds))
-  item-alone (Deceased f a n) s ds = after-when (λ _. deceased-alone _ _ ds) (λ _. quiet-alone s ds)
+  unfolding handler.item
+  item-alone e s ds = act-alone _ s ds
 
   more-alone : (ts : List (Timer A)) (x : Answer (Out A)) (k : Node A → List ℕ → Answer (Out A)) → Alone ts x → ((s : Node A) (ds : List ℕ) → Alone (s .timers) (k s ds)) → Alone ts (andMore x k)
   unfolding andMore
@@ -133,7 +131,7 @@ module _ {A : Type 0} (address : Address A) where
 
   admit-alone : (a : A) (s : Node A) (ds : List ℕ) → Alone (s .timers) (handler.admit address a s ds)
   unfolding handler.admit
-  admit-alone a s ds = after-when (λ _. quiet-alone s ds) (λ _. after-death _ (λ n. enter-alone a n s ds))
+  admit-alone a s ds = act-alone _ s ds
 
   -- the list may be replaced or not
   picked-alone : (u : Bool) (s : Node A) (m : Members A) → pick u (withMembers s m) s .timers ≡ s .timers
@@ -176,7 +174,7 @@ module _ {A : Type 0} (address : Address A) where
 
   ask-starts : (a : A) (n now : ℕ) (s : Node A) (ds : List ℕ) → Starts (SendingPingReq a n) now s (D.sendPingReq address a n now s ds)
   unfolding D.sendPingReq D.suspect D.asked change
-  ask-starts a n now s ds = after-then (alive-alone _ _ ds) (λ o rest e. from o e (D.pickGroup address a (o .node) rest))
+  ask-starts a n now s ds = after-then (emit-alone kind.Alive _ _ ds) (λ o rest e. from o e (D.pickGroup address a (o .node) rest))
     where
       from : (o : Out A) → o .node .timers ≡ s .timers → (x : Answer (Picked A)) → Starts (SendingPingReq a n) now s (andThen x λ p rest₂. done (D.asked address a n now o p) rest₂)
       from o e (refused r) = halts
@@ -192,7 +190,7 @@ module _ {A : Type 0} (address : Address A) where
 
   end-removes : (i : ℕ) (s : Node A) → Alone (removeAt (s .timers) i) (D.endAt address i s [])
   unfolding D.endAt D.ended leave
-  end-removes i s = after-map (λ o e. e ∙ picked-alone (lists address (getD (s .timers) i (noTimer address) .addr) s) (withTimers s (removeAt (s .timers) i)) _) (deceased-alone _ _ [])
+  end-removes i s = after-map (λ o e. e ∙ picked-alone (lists address (getD (s .timers) i (noTimer address) .addr) s) (withTimers s (removeAt (s .timers) i)) _) (emit-alone kind.Deceased _ _ [])
 
 module _ {A : Type 0} (address : Address A) (lawful : Lawful address) (s : Node A) (w : Wait A) (g : Good address s) where
   abbrev seen : Node A

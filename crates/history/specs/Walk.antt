@@ -7,7 +7,7 @@ use mathlib.Core.Option.{Option, none, some}
 use Prim.Native.Nat.{ℕ}
 use Rattle.model.specs.Rows.{pick}
 use Rattle.model.specs.Answers.{Answer, done, refused, andThen}
-use Rattle.model.specs.After.{After, halts, gives, after-then, after-map}
+use Rattle.laws.specs.After.{After, halts, gives, after-then, after-map}
 use Rattle.model.specs.declared.State.the-variants as state
 use Rattle.model.specs.Words.{Address, Lawful, Gossip, Action, Ping, PingReq, Ack, WaitState, SendingPing, WaitingForPingAck, SendingPingReq, WaitingForPingReqAck, Declaring}
 use Rattle.model.specs.Node.{Node, Out, andMore, quiet, numbered, spread}

@@ -8,13 +8,13 @@ use Prim.Native.Nat.{ℕ}
 use Rattle.model.specs.declared.State.the-variants as state
 use Rattle.model.specs.Rows.{pick}
 use Rattle.model.specs.Answers.{Answer, done, refused, andThen}
-use Rattle.model.specs.Bools.{none-some}
-use Rattle.model.specs.After.{After, halts, gives, after-when, after-then, after-map}
+use Rattle.laws.specs.Bools.{none-some}
+use Rattle.laws.specs.After.{After, halts, gives, after-when, after-then, after-map}
 use Rattle.model.specs.Words.{Address, Lawful, Gossip, Message, WaitState, SendingPing, WaitingForPingAck, SendingPingReq, WaitingForPingReqAck, Declaring}
 use Rattle.model.specs.Members.{Members, Picked, held}
 use Rattle.model.specs.Node.{Node, Out, withMembers, numbered, change, spread}
 use Rattle.model.specs.Detector.{Stepped, moves, pinged, sendPing, heard, waited, askEach, asked, pickGroup, sendPingReq, declare, step as stepRule}
-use Rattle.model.specs.Picking.{Turned, pick-turned}
+use Rattle.laws_list.specs.Picking.{Turned, pick-turned}
 use Rattle.history.specs.Moments.{Pinged, Asked, Other, Moment, moment, traceThen, steppedTo, pingedDeed, tracePing, traceAsk, traceStep}
 use Rattle.history.specs.Ledger.{Tally, pings, asks}
 use Rattle.history.specs.Did.{Did, Kept, next}

@@ -11,17 +11,17 @@ use borrow.Author.Tests.{not-false}
 use Rattle.model.specs.declared.Refusal.{Refusal}
 use Rattle.model.specs.declared.Settings.{Settings}
 use Rattle.model.specs.Rows.{one, pick, every}
-use Rattle.model.specs.Bools.{and-split, none-some}
+use Rattle.laws.specs.Bools.{and-split, none-some}
 use Rattle.model.specs.Answers.{Answer, done, andThen}
-use Rattle.model.specs.After.{After, halts, gives, after-then, after-both}
+use Rattle.laws.specs.After.{After, halts, gives, after-then, after-both}
 use Rattle.model.specs.Words.{Address, Lawful, Wait, SendingPing, noTimer}
 use Rattle.model.specs.Members.{Members}
 use Rattle.model.specs.Node.{Node, Effect, Stored, loaded, stored, fresh, withMembers, lists}
 use Rattle.model.specs.Detector.{Stepped, step as stepRule, due, firstOver}
 use Rattle.model.specs.Sound.{inRange, validGossip}
-use Rattle.model.specs.Good.{Good, loaded-stored}
-use Rattle.model.specs.Keeps.{Keeps, add-keeps}
-use Rattle.model.specs.KeepsCalls.{handle-keeps, step-keeps, end-keeps, first-over-in, fresh-good}
+use Rattle.laws_node.specs.Good.{Good, loaded-stored}
+use Rattle.laws_rules.specs.Keeps.{Keeps, add-keeps}
+use Rattle.laws_rules.specs.KeepsCalls.{handle-keeps, step-keeps, end-keeps, first-over-in, fresh-good}
 use Rattle.model.specs.Calls.{Outcome, StepOutcome, firstOf, refuses, orAlready, whenDue, kept, keptStep, joins, addTests, messageTests, stepTests, timerTests, addPeer, message, detect, endsAt, endTimer, validAction, validState}
 use Rattle.history.specs.Moments.{Moment, Added, moment, silent, traceAdd, traceMessage, traceStep, traceTimer, endedDeed}
 use Rattle.history.specs.Ledger.{Tally, tally, begun}

@@ -12,15 +12,15 @@ use borrow.Author.Tests.{le-leb, lt-leb, ltb-true, ltb-false, lt-ltb, le-ltb, eq
 use Rattle.model.specs.declared.State.the-variants.{Alive}
 use Rattle.model.specs.declared.Refusal.the-variants.{ListFull, DrawsShort}
 use Rattle.model.specs.Rows.{one, pick, insertAt, removeAt, padTo, has, erase, occurs}
-use Rattle.model.specs.Pad.{length-removeAt}
-use Rattle.model.specs.Padded.{pad-snoc, pad-set, removeAt-out}
-use Rattle.model.specs.Counts.{has-le, has-none}
+use Rattle.laws.specs.Pad.{length-removeAt}
+use Rattle.laws.specs.Padded.{pad-snoc, pad-set, removeAt-out}
+use Rattle.laws.specs.Counts.{has-le, has-none}
 use Rattle.model.specs.Answers.{done, refused, when}
-use Rattle.model.specs.IPv4.{ipv4}
+use Rattle.address.specs.Here.{Addr, here}
 use Rattle.model.specs.Words as words
 use Rattle.model.specs.Members as list
-use Rattle.model.specs.Places.{placeOf, has-place, erase-place, strike-place, put-place, held-place, state-place}
-use Rattle.order.specs.declared.Drew.the-variants.{Used, Refused}
+use Rattle.laws_list.specs.Places.{placeOf, has-place, erase-place, strike-place, put-place, held-place, state-place}
+use Rattle.model.specs.declared.Drew.the-variants.{Used, Refused}
 use Rattle.member.specs.declared.Member.{Member}
 use Rattle.member.specs.declared.Members.{Members}
 use Rattle.member.specs.declared.Kept.{Kept}
@@ -29,14 +29,14 @@ use Rattle.member.specs.Packing.{table-used, order-used, view-many, pack
 use Rattle.member.proofs.Tables.{record-at, removed-row, replaced-row, added-row}
 
 -- the table of the list, and the place of an address in it
-module _ (m : Members) (a : ℕ) where
-  abbrev pub held-table : List (words.Member ℕ)
+module _ (m : Members) (a : Addr) where
+  abbrev pub held-table : List (words.Member Addr)
   held-table = map toMember (take (m .len) (m .table))
 
   abbrev pub place-in : ℕ
-  place-in = placeOf (ipv4 .same) a (list.addrs held-table)
+  place-in = placeOf (here .same) a (list.addrs held-table)
 
-module _ (m : Members) (p : Packed m) (a place : ℕ) (e : place ≡ place-in m a) where
+module _ (m : Members) (p : Packed m) (a : Addr) (place : ℕ) (e : place ≡ place-in m a) where
   long : length (held-table m a) ≡ m .len
   long = length-map (take (m .len) (m .table)) toMember ∙ table-used m p
 
@@ -44,150 +44,150 @@ module _ (m : Members) (p : Packed m) (a place : ℕ) (e : place ≡ place-in m 
   addresses = length-map (held-table m a) (λ k. k .addr) ∙ long
 
   -- an address is listed if its place is a used one
-  pub lists-is : ltb place (m .len) ≡ list.listed (ipv4 .same) a (viewMembers m .table)
+  pub lists-is : ltb place (m .len) ≡ list.listed (here .same) a (viewMembers m .table)
   unfolding viewMembers
-  lists-is = (λ i. ltb (e i) (sym addresses i)) ∙ sym (has-place (ipv4 .same) a (list.addrs (held-table m a)))
+  lists-is = (λ i. ltb (e i) (sym addresses i)) ∙ sym (has-place (here .same) a (list.addrs (held-table m a)))
 
   -- one that is not listed has number 0 and is Alive
-  pub number-none : place ≡ m .len → 0 ≡ list.held (ipv4 .same) a (viewMembers m .table)
+  pub number-none : place ≡ m .len → 0 ≡ list.held (here .same) a (viewMembers m .table)
   unfolding viewMembers
   number-none h =
-      sym (held-place (ipv4 .same) a (held-table m a) (words.noMember ipv4) refl
-      ∙ ap (λ (k : words.Member ℕ). k .number) (List·getD-eq-default (held-table m a) (words.noMember ipv4) (omega (arith, long))))
+      sym (held-place (here .same) a (held-table m a) (words.noMember here) refl
+      ∙ ap (λ (k : words.Member Addr). k .number) (List·getD-eq-default (held-table m a) (words.noMember here) (omega (arith, long))))
 
-  pub state-none : place ≡ m .len → Alive ≡ list.heldState (ipv4 .same) a (viewMembers m .table)
+  pub state-none : place ≡ m .len → Alive ≡ list.heldState (here .same) a (viewMembers m .table)
   unfolding viewMembers
   state-none h =
-      sym (state-place (ipv4 .same) a (held-table m a) (words.noMember ipv4) refl
-      ∙ ap (λ (k : words.Member ℕ). k .state) (List·getD-eq-default (held-table m a) (words.noMember ipv4) (omega (arith, long))))
+      sym (state-place (here .same) a (held-table m a) (words.noMember here) refl
+      ∙ ap (λ (k : words.Member Addr). k .state) (List·getD-eq-default (held-table m a) (words.noMember here) (omega (arith, long))))
 
-  at-place : place < m .len → getD (held-table m a) (place-in m a) (words.noMember ipv4) ≡ toMember (getD (m .table) place nobody)
-  at-place h = ap (λ (i : ℕ). getD (held-table m a) i (words.noMember ipv4)) (sym e) ∙ record-at (m .len) (m .table) place h
+  at-place : place < m .len → getD (held-table m a) (place-in m a) (words.noMember here) ≡ toMember (getD (m .table) place nobody)
+  at-place h = ap (λ (i : ℕ). getD (held-table m a) i (words.noMember here)) (sym e) ∙ record-at (m .len) (m .table) place h
 
-  pub number-is : place < m .len → getD (m .table) place nobody .number ≡ list.held (ipv4 .same) a (viewMembers m .table)
+  pub number-is : place < m .len → getD (m .table) place nobody .number ≡ list.held (here .same) a (viewMembers m .table)
   unfolding viewMembers
-  number-is h = sym (held-place (ipv4 .same) a (held-table m a) (words.noMember ipv4) refl ∙ ap (λ (k : words.Member ℕ). k .number) (at-place h))
+  number-is h = sym (held-place (here .same) a (held-table m a) (words.noMember here) refl ∙ ap (λ (k : words.Member Addr). k .number) (at-place h))
 
-  pub state-is : place < m .len → getD (m .table) place nobody .state ≡ list.heldState (ipv4 .same) a (viewMembers m .table)
+  pub state-is : place < m .len → getD (m .table) place nobody .state ≡ list.heldState (here .same) a (viewMembers m .table)
   unfolding viewMembers
-  state-is h = sym (state-place (ipv4 .same) a (held-table m a) (words.noMember ipv4) refl ∙ ap (λ (k : words.Member ℕ). k .state) (at-place h))
+  state-is h = sym (state-place (here .same) a (held-table m a) (words.noMember here) refl ∙ ap (λ (k : words.Member Addr). k .state) (at-place h))
 
 module _ (m : Members) (p : Packed m) (k : Member) (place : ℕ) (e : place ≡ place-in m (k .addr)) where
-  put-is : list.put (ipv4 .same) (toMember k) (held-table m (k .addr)) ≡ set (held-table m (k .addr)) place (toMember k)
-  put-is = put-place (ipv4 .same) (toMember k) (held-table m (k .addr)) ∙ ap (λ (i : ℕ). set (held-table m (k .addr)) i (toMember k)) (sym e)
+  put-is : list.put (here .same) (toMember k) (held-table m (k .addr)) ≡ set (held-table m (k .addr)) place (toMember k)
+  put-is = put-place (here .same) (toMember k) (held-table m (k .addr)) ∙ ap (λ (i : ℕ). set (held-table m (k .addr)) i (toMember k)) (sym e)
 
-  pub updated-none : place ≡ m .len → m ≡ packMembers (list.update (ipv4 .same) (toMember k) (viewMembers m))
+  pub updated-none : place ≡ m .len → m ≡ packMembers (list.update (here .same) (toMember k) (viewMembers m))
   unfolding list.update viewMembers
   updated-none h =
-      let t : list.put (ipv4 .same) (toMember k) (held-table m (k .addr)) ≡ held-table m (k .addr) =
+      let t : list.put (here .same) (toMember k) (held-table m (k .addr)) ≡ held-table m (k .addr) =
       put-is ∙ set-out (held-table m (k .addr)) place (toMember k) (omega (arith, long m p (k .addr) place e)) in
-      sym (ap (λ (l : List (words.Member ℕ)). packMembers (record { table = l; order = take (m .len) (m .order); position = m .position })) t ∙ pack-view m p)
+      sym (ap (λ (l : List (words.Member Addr)). packMembers (record { table = l; order = take (m .len) (m .order); position = m .position })) t ∙ pack-view m p)
 
   pub updated : place < m .len
       → _≡_ {A = Members} (record { table = set (m .table) place k; order = m .order; len = m .len; position = m .position })
-      (packMembers (list.update (ipv4 .same) (toMember k) (viewMembers m)))
+      (packMembers (list.update (here .same) (toMember k) (viewMembers m)))
   unfolding list.update viewMembers packMembers
   updated h =
       let u = take (m .len) (m .table) in
-      let t : set (m .table) place k ≡ padTo 64 nobody (map fromMember (list.put (ipv4 .same) (toMember k) (held-table m (k .addr)))) =
+      let t : set (m .table) place k ≡ padTo 64 nobody (map fromMember (list.put (here .same) (toMember k) (held-table m (k .addr)))) =
       ap (λ (l : List Member). set l place k) (p .table)
       ∙ pad-set 64 nobody u place k (omega (arith, table-used m p))
       ∙ ap (padTo 64 nobody) (sym (ap (map fromMember) put-is ∙ replaced-row u place k)) in
-      let n : m .len ≡ length (list.put (ipv4 .same) (toMember k) (held-table m (k .addr))) =
+      let n : m .len ≡ length (list.put (here .same) (toMember k) (held-table m (k .addr))) =
       sym (ap length put-is ∙ length-set (held-table m (k .addr)) place (toMember k) ∙ long m p (k .addr) place e) in
       λ i. record { table = t i; order = p .order i; len = n i; position = m .position }
 
 -- the position of a list that nothing leaves
-position-stays : (q n : ℕ) → q ≤ n - 1 → list.positionAfter (ipv4 .same) q n ≡ q
+position-stays : (q n : ℕ) → q ≤ n - 1 → list.positionAfter (here .same) q n ≡ q
 position-stays q n h =
     (elim (eqb q n) as (λ u. eqb q n ≡ u → pick u (n - 1) q ≡ q) [
       | true ↦ λ z. omega (arith, eqb-true q n z)
       | false ↦ λ z. refl
     ]) refl
 
-module _ (m : Members) (g : Held m) (a place : ℕ) (e : place ≡ place-in m a) where
+module _ (m : Members) (g : Held m) (a : Addr) (place : ℕ) (e : place ≡ place-in m a) where
   -- as often in the order as in the table
-  as-often : occurs (ipv4 .same) a (take (m .len) (m .order)) ≡ occurs (ipv4 .same) a (list.addrs (held-table m a))
+  as-often : occurs (here .same) a (take (m .len) (m .order)) ≡ occurs (here .same) a (list.addrs (held-table m a))
   unfolding viewMembers
   as-often = g .whole .counts a
 
   -- the place in the order is a used one if that in the table is, and none otherwise
-  pub order-place : (at : ℕ) → at ≡ placeOf (ipv4 .same) a (take (m .len) (m .order)) → place < m .len → at < m .len
+  pub order-place : (at : ℕ) → at ≡ placeOf (here .same) a (take (m .len) (m .order)) → place < m .len → at < m .len
   order-place at q h =
       let l = list.addrs (held-table m a) in
       let o = take (m .len) (m .order) in
-      let listed : has (ipv4 .same) a l ≡ true =
-      has-place (ipv4 .same) a l ∙ lt-ltb (placeOf (ipv4 .same) a l) (length l) (omega (arith, addresses m (g .packed) a place e)) in
-      let in-l : 0 < occurs (ipv4 .same) a l = omega (arith, has-le (ipv4 .same) a l, ap one listed) in
-      let in-o : has (ipv4 .same) a o ≡ true =
-      (elim (has (ipv4 .same) a o) as (λ u. has (ipv4 .same) a o ≡ u → u ≡ true) [
+      let listed : has (here .same) a l ≡ true =
+      has-place (here .same) a l ∙ lt-ltb (placeOf (here .same) a l) (length l) (omega (arith, addresses m (g .packed) a place e)) in
+      let in-l : 0 < occurs (here .same) a l = omega (arith, has-le (here .same) a l, ap one listed) in
+      let in-o : has (here .same) a o ≡ true =
+      (elim (has (here .same) a o) as (λ u. has (here .same) a o ≡ u → u ≡ true) [
         | true ↦ λ _. refl
-        | false ↦ λ z. absurd (omega (arith, has-none (ipv4 .same) a o z, as-often))
+        | false ↦ λ z. absurd (omega (arith, has-none (here .same) a o z, as-often))
       ]) refl in
-      omega (arith, ltb-true (placeOf (ipv4 .same) a o) (length o) (sym (has-place (ipv4 .same) a o) ∙ in-o), order-used m (g .packed))
+      omega (arith, ltb-true (placeOf (here .same) a o) (length o) (sym (has-place (here .same) a o) ∙ in-o), order-used m (g .packed))
 
-  pub removed-none : place ≡ m .len → m ≡ packMembers (list.remove (ipv4 .same) a (viewMembers m))
+  pub removed-none : place ≡ m .len → m ≡ packMembers (list.remove (here .same) a (viewMembers m))
   unfolding list.remove viewMembers
   removed-none h =
       let l = list.addrs (held-table m a) in
       let o = take (m .len) (m .order) in
-      let t : list.strike (ipv4 .same) a (held-table m a) ≡ held-table m a =
-      strike-place (ipv4 .same) a (held-table m a) ∙ removeAt-out (held-table m a) (place-in m a) (omega (arith, long m (g .packed) a place e)) in
-      let none-l : has (ipv4 .same) a l ≡ false =
-      has-place (ipv4 .same) a l ∙ le-ltb (placeOf (ipv4 .same) a l) (length l) (omega (arith, addresses m (g .packed) a place e)) in
-      let none-o : has (ipv4 .same) a o ≡ false =
-      (elim (has (ipv4 .same) a o) as (λ u. has (ipv4 .same) a o ≡ u → u ≡ false) [
-        | true ↦ λ z. absurd (omega (arith, has-le (ipv4 .same) a o, ap one z, has-none (ipv4 .same) a l none-l, as-often))
+      let t : list.strike (here .same) a (held-table m a) ≡ held-table m a =
+      strike-place (here .same) a (held-table m a) ∙ removeAt-out (held-table m a) (place-in m a) (omega (arith, long m (g .packed) a place e)) in
+      let none-l : has (here .same) a l ≡ false =
+      has-place (here .same) a l ∙ le-ltb (placeOf (here .same) a l) (length l) (omega (arith, addresses m (g .packed) a place e)) in
+      let none-o : has (here .same) a o ≡ false =
+      (elim (has (here .same) a o) as (λ u. has (here .same) a o ≡ u → u ≡ false) [
+        | true ↦ λ z. absurd (omega (arith, has-le (here .same) a o, ap one z, has-none (here .same) a l none-l, as-often))
         | false ↦ λ _. refl
       ]) refl in
-      let r : erase (ipv4 .same) a o ≡ o =
-      erase-place (ipv4 .same) a o ∙ removeAt-out o (placeOf (ipv4 .same) a o)
-      (omega (arith, ltb-false (placeOf (ipv4 .same) a o) (length o) (sym (has-place (ipv4 .same) a o) ∙ none-o))) in
-      let s : list.positionAfter (ipv4 .same) (m .position) (length (erase (ipv4 .same) a o)) ≡ m .position =
-      ap (λ (x : List ℕ). list.positionAfter (ipv4 .same) (m .position) (length x)) r ∙ position-stays (m .position) (length o) (g .whole .place) in
+      let r : erase (here .same) a o ≡ o =
+      erase-place (here .same) a o ∙ removeAt-out o (placeOf (here .same) a o)
+      (omega (arith, ltb-false (placeOf (here .same) a o) (length o) (sym (has-place (here .same) a o) ∙ none-o))) in
+      let s : list.positionAfter (here .same) (m .position) (length (erase (here .same) a o)) ≡ m .position =
+      ap (λ (x : List Addr). list.positionAfter (here .same) (m .position) (length x)) r ∙ position-stays (m .position) (length o) (g .whole .place) in
       sym ((λ i. packMembers (record { table = t i; order = r i; position = s i })) ∙ pack-view m (g .packed))
 
-  pub removed : (at position : ℕ) (table : List Member) (order : List ℕ) → place < m .len
-      → at ≡ placeOf (ipv4 .same) a (take (m .len) (m .order)) → table ≡ padTo 64 nobody (removeAt (take (m .len) (m .table)) place)
-      → order ≡ padTo 64 (ipv4 .blank) (removeAt (take (m .len) (m .order)) at) → position ≡ list.positionAfter (ipv4 .same) (m .position) (m .len - 1)
+  pub removed : (at position : ℕ) (table : List Member) (order : List Addr) → place < m .len
+      → at ≡ placeOf (here .same) a (take (m .len) (m .order)) → table ≡ padTo 64 nobody (removeAt (take (m .len) (m .table)) place)
+      → order ≡ padTo 64 (here .blank) (removeAt (take (m .len) (m .order)) at) → position ≡ list.positionAfter (here .same) (m .position) (m .len - 1)
       → _≡_ {A = Members} (record { table = table; order = order; len = m .len - 1; position = position })
-      (packMembers (list.remove (ipv4 .same) a (viewMembers m)))
+      (packMembers (list.remove (here .same) a (viewMembers m)))
   unfolding list.remove viewMembers packMembers
   removed at position table order h q tq oq pq =
       let o = take (m .len) (m .order) in
       let below = order-place at q h in
-      let s : list.strike (ipv4 .same) a (held-table m a) ≡ removeAt (held-table m a) place =
-      strike-place (ipv4 .same) a (held-table m a) ∙ ap (removeAt (held-table m a)) (sym e) in
-      let r : erase (ipv4 .same) a o ≡ removeAt o at = erase-place (ipv4 .same) a o ∙ ap (removeAt o) (sym q) in
-      let t : table ≡ padTo 64 nobody (map fromMember (list.strike (ipv4 .same) a (held-table m a))) =
+      let s : list.strike (here .same) a (held-table m a) ≡ removeAt (held-table m a) place =
+      strike-place (here .same) a (held-table m a) ∙ ap (removeAt (held-table m a)) (sym e) in
+      let r : erase (here .same) a o ≡ removeAt o at = erase-place (here .same) a o ∙ ap (removeAt o) (sym q) in
+      let t : table ≡ padTo 64 nobody (map fromMember (list.strike (here .same) a (held-table m a))) =
       tq ∙ ap (padTo 64 nobody) (sym (ap (map fromMember) s ∙ removed-row (take (m .len) (m .table)) place)) in
-      let n : m .len - 1 ≡ length (list.strike (ipv4 .same) a (held-table m a)) =
+      let n : m .len - 1 ≡ length (list.strike (here .same) a (held-table m a)) =
       omega (arith, ap length s, length-removeAt (held-table m a) place (omega (arith, long m (g .packed) a place e)), long m (g .packed) a place e) in
-      let k : m .len - 1 ≡ length (erase (ipv4 .same) a o) =
+      let k : m .len - 1 ≡ length (erase (here .same) a o) =
       omega (arith, ap length r, length-removeAt o at (omega (arith, order-used m (g .packed))), order-used m (g .packed)) in
       λ i. record {
         table = t i;
-        order = (oq ∙ ap (padTo 64 (ipv4 .blank)) (sym r)) i;
+        order = (oq ∙ ap (padTo 64 (here .blank)) (sym r)) i;
         len = n i;
-        position = (pq ∙ ap (list.positionAfter (ipv4 .same) (m .position)) k) i;
+        position = (pq ∙ ap (list.positionAfter (here .same) (m .position)) k) i;
       }
 
 -- each way out of an addition
-module _ (m : list.Members ℕ) (a number : ℕ) where
-  pub add-full : (ds : List ℕ) → 64 ≤ length (m .table) → list.add (ipv4 .same) a number m ds ≡ refused ListFull
+module _ (m : list.Members Addr) (a : Addr) (number : ℕ) where
+  pub add-full : (ds : List ℕ) → 64 ≤ length (m .table) → list.add (here .same) a number m ds ≡ refused ListFull
   unfolding list.add when
   add-full ds h = rw (le-leb 64 (length (m .table)) h)
 
-  pub add-short : (ds : List ℕ) → length (m .table) < 64 → ds ≡ [] → list.add (ipv4 .same) a number m ds ≡ refused DrawsShort
+  pub add-short : (ds : List ℕ) → length (m .table) < 64 → ds ≡ [] → list.add (here .same) a number m ds ≡ refused DrawsShort
   unfolding list.add when
   add-short ds h e = rw (lt-leb 64 (length (m .table)) h, e)
 
   pub add-done : (ds : List ℕ) (d : ℕ) (rest : List ℕ) → length (m .table) < 64 → ds ≡ d ∷ rest
-      → list.add (ipv4 .same) a number m ds ≡ done (list.added (ipv4 .same) a number d m) rest
+      → list.add (here .same) a number m ds ≡ done (list.added (here .same) a number d m) rest
   unfolding list.add when
   add-done ds d rest h e = rw (lt-leb 64 (length (m .table)) h, e)
 
-module _ (m : Members) (p : Packed m) (a number : ℕ) (draws : List ℕ) (from : ℕ) where
+module _ (m : Members) (p : Packed m) (a : Addr) (number : ℕ) (draws : List ℕ) (from : ℕ) where
   pub kept-full : 64 ≤ m .len → _≡_ {A = Kept} (record { members = m; drew = Refused ListFull }) (addedOf m a number draws from)
   kept-full h = ap (keptAs m (length draws - from)) (sym (add-full (viewMembers m) a number (drop from draws) (omega (arith, view-many m p))))
 
@@ -197,11 +197,11 @@ module _ (m : Members) (p : Packed m) (a number : ℕ) (draws : List ℕ) (from 
       (sym (add-short (viewMembers m) a number (drop from draws) (omega (arith, view-many m p)) (drop-of-length-le draws k)))
 
   -- the rows with one more
-  added-rows : (order : List ℕ) → m .len < 64
-      → order ≡ padTo 64 (ipv4 .blank) (insertAt (take (m .len) (m .order)) (getD draws from 0 % (m .len + 1)) a)
+  added-rows : (order : List Addr) → m .len < 64
+      → order ≡ padTo 64 (here .blank) (insertAt (take (m .len) (m .order)) (getD draws from 0 % (m .len + 1)) a)
       → _≡_ {A = Members}
       (record { table = set (m .table) (m .len) (record { addr = a; state = Alive; number = number }); order = order; len = m .len + 1; position = m .position })
-      (packMembers (list.added (ipv4 .same) a number (getD draws from 0) (viewMembers m)))
+      (packMembers (list.added (here .same) a number (getD draws from 0) (viewMembers m)))
   unfolding list.added viewMembers packMembers
   added-rows order h e =
       let u = take (m .len) (m .table) in
@@ -217,13 +217,13 @@ module _ (m : Members) (p : Packed m) (a number : ℕ) (draws : List ℕ) (from 
       omega (arith, length-append (map toMember u) (toMember v ∷ []), length-map u toMember, table-used m p) in
       λ i. record {
         table = t i;
-        order = (e ∙ ap (λ (x : ℕ). padTo 64 (ipv4 .blank) (insertAt o (getD draws from 0 % x) a)) j) i;
+        order = (e ∙ ap (λ (x : ℕ). padTo 64 (here .blank) (insertAt o (getD draws from 0 % x) a)) j) i;
         len = n i;
         position = m .position;
       }
 
-  pub kept-added : (order : List ℕ) → m .len < 64 → from < length draws
-      → order ≡ padTo 64 (ipv4 .blank) (insertAt (take (m .len) (m .order)) (getD draws from 0 % (m .len + 1)) a)
+  pub kept-added : (order : List Addr) → m .len < 64 → from < length draws
+      → order ≡ padTo 64 (here .blank) (insertAt (take (m .len) (m .order)) (getD draws from 0 % (m .len + 1)) a)
       → _≡_ {A = Kept}
       (record {
         members = record {

@@ -8,11 +8,11 @@ use lib.ListN.{length, take, drop, replicate, length-map}
 use lib.Seq.{drop-at}
 use Rattle.model.specs.Rows.{padTo}
 use Rattle.model.specs.Answers.{Answer, done, refused}
-use Rattle.model.specs.After.{After, halts, gives}
-use Rattle.model.specs.IPv4.{ipv4}
+use Rattle.laws.specs.After.{After, halts, gives}
+use Rattle.address.specs.Here.{Addr, here}
 use Rattle.model.specs.Words as words
 use Rattle.model.specs.Members as list
-use Rattle.model.specs.Aside.{withTable, pickedWith, onAnswer, advance-aside, pick-aside, Fits, advance-fits, pick-fits}
+use Rattle.laws_list.specs.Aside.{withTable, pickedWith, onAnswer, advance-aside, pick-aside, Fits, advance-fits, pick-fits}
 use Rattle.order.specs.declared.Order.{Order}
 use Rattle.order.specs.declared.Turned.{Turned}
 use Rattle.order.specs.declared.Exclusion.{Exclusion}
@@ -37,29 +37,29 @@ order-ready m g =
     record { few = g .packed .few; long = order-long m (g .packed); place = omega (arith, g .whole .place, order-used m (g .packed)) }
 
 module _ (m : Members) (g : Held m) where
-  table : List (words.Member ℕ)
+  table : List (words.Member Addr)
   table = map toMember (take (m .len) (m .table))
 
   -- a list with another order, packed
-  put-back : (l : list.Members ℕ) → length (l .order) ≡ m .len
+  put-back : (l : list.Members Addr) → length (l .order) ≡ m .len
       → withOrder m (order.packOrder (orderOf m) (m .len) l) ≡ packMembers (withTable table l)
   unfolding packMembers table
   put-back l e =
       let p = g .packed in
       let u = take (m .len) (m .table) in
       let t : m .table ≡ padTo 64 nobody (map fromMember (map toMember u)) = p .table ∙ ap (padTo 64 nobody) (sym (from-to u)) in
-      let b : drop (m .len) (m .order) ≡ replicate (64 - length (take (m .len) (m .order))) (ipv4 .blank) =
+      let b : drop (m .len) (m .order) ≡ replicate (64 - length (take (m .len) (m .order))) (here .blank) =
       ap (drop (m .len)) (p .order) ∙ drop-at (take (m .len) (m .order)) _ (m .len) (order-used m p) in
       let k : 64 - length (take (m .len) (m .order)) ≡ 64 - length (l .order) = omega (arith, order-used m p) in
-      let r : l .order ++ drop (m .len) (m .order) ≡ padTo 64 (ipv4 .blank) (l .order) =
-      ap (λ (x : List ℕ). l .order ++ x) (b ∙ ap (λ (i : ℕ). replicate i (ipv4 .blank)) k) in
+      let r : l .order ++ drop (m .len) (m .order) ≡ padTo 64 (here .blank) (l .order) =
+      ap (λ (x : List Addr). l .order ++ x) (b ∙ ap (λ (i : ℕ). replicate i (here .blank)) k) in
       let n : m .len ≡ length (map toMember u) = sym (length-map u toMember ∙ table-used m p) in
       λ i. record { table = t i; order = r i; len = n i; position = l .position }
 
   many : length (order.viewOrder (orderOf m) (m .len) .order) ≡ m .len
   many = order-used m (g .packed)
 
-  advanced-as : (k : ℕ) (x : Answer (list.Members ℕ)) → After (Fits (order.viewOrder (orderOf m) (m .len))) x
+  advanced-as : (k : ℕ) (x : Answer (list.Members Addr)) → After (Fits (order.viewOrder (orderOf m) (m .len))) x
       → _≡_ {A = Kept} (record { members = withOrder m (order.turnedOrder (orderOf m) (m .len) x); drew = order.drewOf k x }) (keptAs m k (onAnswer (withTable table) x))
   advanced-as k (refused r) halts = refl
   advanced-as k (done l rest) (gives f) = λ i. record { members = put-back l (f .long ∙ many) i; drew = order.drewOf k (done l rest) }
@@ -69,12 +69,12 @@ module _ (m : Members) (g : Held m) where
   unfolding viewMembers table
   advanced-is draws from t h e =
       let o = order.viewOrder (orderOf m) (m .len) in
-      let x = list.advance (ipv4 .blank) o (drop from draws) in
+      let x = list.advance (here .blank) o (drop from draws) in
       (λ i. record { members = withOrder m (e i .order); drew = e i .drew })
-      ∙ advanced-as (length draws - from) x (advance-fits (ipv4 .blank) o (drop from draws) (omega (arith, many)))
-      ∙ ap (keptAs m (length draws - from)) (sym (advance-aside table (ipv4 .blank) o (drop from draws)))
+      ∙ advanced-as (length draws - from) x (advance-fits (here .blank) o (drop from draws) (omega (arith, many)))
+      ∙ ap (keptAs m (length draws - from)) (sym (advance-aside table (here .blank) o (drop from draws)))
 
-  picked-as : (k : ℕ) (x : Answer (list.Picked ℕ)) → After (λ p. Fits (order.viewOrder (orderOf m) (m .len)) (p .members)) x
+  picked-as : (k : ℕ) (x : Answer (list.Picked Addr)) → After (λ p. Fits (order.viewOrder (orderOf m) (m .len)) (p .members)) x
       → _≡_ {A = Picked}
       (record { members = withOrder m (order.pickedOrder (orderOf m) (m .len) x); picks = order.pickedRow x; drew = order.drewOf k x })
       (pickedAs m k (onAnswer (pickedWith table) x))
@@ -82,13 +82,13 @@ module _ (m : Members) (g : Held m) where
   picked-as k (done p rest) (gives f) =
       λ i. record { members = put-back (p .members) (f .long ∙ many) i; picks = order.picksOf (p .picks); drew = order.drewOf k (done p rest) }
 
-  pub picked-is : (own : ℕ) (e : Exclusion) (wanted : ℕ) (draws : List ℕ) (from : ℕ) (t : ordered.Picked)
+  pub picked-is : (own : Addr) (e : Exclusion) (wanted : ℕ) (draws : List ℕ) (from : ℕ) (t : ordered.Picked)
       → t ≡ order.pickedOf (orderOf m) (m .len) own e wanted draws from
       → _≡_ {A = Picked} (record { members = withOrder m (t .order); picks = t .picks; drew = t .drew }) (pickedOf m own e wanted draws from)
   unfolding viewMembers table
   picked-is own e wanted draws from t q =
       let o = order.viewOrder (orderOf m) (m .len) in
-      let x = list.pickFrom (ipv4 .same) (ipv4 .blank) own (order.excluded e) wanted o (drop from draws) in
+      let x = list.pickFrom (here .same) (here .blank) own (order.excluded e) wanted o (drop from draws) in
       (λ i. record { members = withOrder m (q i .order); picks = q i .picks; drew = q i .drew })
-      ∙ picked-as (length draws - from) x (pick-fits (ipv4 .blank) (ipv4 .same) own (order.excluded e) wanted o (drop from draws) (g .whole .place))
-      ∙ ap (pickedAs m (length draws - from)) (sym (pick-aside table (ipv4 .same) (ipv4 .blank) own (order.excluded e) wanted o (drop from draws)))
+      ∙ picked-as (length draws - from) x (pick-fits (here .blank) (here .same) own (order.excluded e) wanted o (drop from draws) (g .whole .place))
+      ∙ ap (pickedAs m (length draws - from)) (sym (pick-aside table (here .same) (here .blank) own (order.excluded e) wanted o (drop from draws)))

@@ -6,8 +6,8 @@ use Prim.Native.Nat.{ℕ, zero, suc, _+_, _-_, _≤_, _<_}
 use lib.ListN.{length, getD, set, take, length-map, List·getD-map}
 use lib.Seq.{length-take-le, getD-take}
 use Rattle.model.specs.Rows.{removeAt}
-use Rattle.model.specs.IPv4.{ipv4}
-use Rattle.model.specs.Packing.{map-removeAt}
+use Rattle.address.specs.Here.{Addr, here}
+use Rattle.laws.specs.Packing.{map-removeAt}
 use Rattle.model.specs.Words as words
 use Rattle.model.specs.Members as list
 use Rattle.member.specs.declared.Member.{Member}
@@ -15,17 +15,17 @@ use Rattle.member.specs.Views.{toMember, fromMember, nobody}
 use Rattle.member.specs.Packing.{from-to}
 
 -- the addresses of the first n
-pub addrs-at : (n : ℕ) (t : List Member) (i : ℕ) → i < n → getD (list.addrs (map toMember (take n t))) i 0 ≡ getD t i nobody .addr
+pub addrs-at : (n : ℕ) (t : List Member) (i : ℕ) → i < n → getD (list.addrs (map toMember (take n t))) i (here .blank) ≡ getD t i nobody .addr
 addrs-at n t i h =
-    List·getD-map (λ (m : words.Member ℕ). m .addr) (map toMember (take n t)) i (words.noMember ipv4)
-    ∙ ap (λ (m : words.Member ℕ). m .addr) (List·getD-map toMember (take n t) i nobody)
+    List·getD-map (λ (m : words.Member Addr). m .addr) (map toMember (take n t)) i (words.noMember here)
+    ∙ ap (λ (m : words.Member Addr). m .addr) (List·getD-map toMember (take n t) i nobody)
     ∙ ap (λ (m : Member). m .addr) (getD-take n t i nobody h)
 
 pub addrs-long : (n : ℕ) (t : List Member) → n ≤ length t → length (list.addrs (map toMember (take n t))) ≡ n
 addrs-long n t h = length-map (map toMember (take n t)) (λ m. m .addr) ∙ length-map (take n t) toMember ∙ length-take-le n t h
 
 -- the record at a place
-pub record-at : (n : ℕ) (t : List Member) (i : ℕ) → i < n → getD (map toMember (take n t)) i (words.noMember ipv4) ≡ toMember (getD t i nobody)
+pub record-at : (n : ℕ) (t : List Member) (i : ℕ) → i < n → getD (map toMember (take n t)) i (words.noMember here) ≡ toMember (getD t i nobody)
 record-at n t i h = List·getD-map toMember (take n t) i nobody ∙ ap toMember (getD-take n t i nobody h)
 
 map-set : {A B : Type 0} (f : A → B) (l : List A) (i : ℕ) (x : A) → map f (set l i x) ≡ set (map f l) i (f x)

@@ -1,5 +1,4 @@
--- How rows carry the list of the rules, and what follows from a sound list.
+-- How rows carry the list of the rules, and the test of soundness.
 pub mod Views
 pub mod Packing
 pub mod Soundness
-pub mod Keeping

@@ -2,16 +2,16 @@
 -- Assumes nothing.
 use mathlib.Core.Path.{_≡_, refl, ap, sym, _∙_, subst}
 use mathlib.Core.List.{List, [], _∷_, map}
-use Prim.Native.Nat.{ℕ, _-_, _≤_}
+use Prim.Native.Nat.{_≤_}
 use native.Mathlib.Omega.{arith}
 use lib.ListN.{length, take, length-take, length-map}
 use lib.Seq.{take-at, length-take-le}
 use Rattle.model.specs.Rows.{padTo}
-use Rattle.model.specs.Pad.{length-padTo}
-use Rattle.model.specs.IPv4.{ipv4}
+use Rattle.laws.specs.Pad.{length-padTo}
+use Rattle.address.specs.Here.{Addr, here}
 use Rattle.model.specs.Words as words
 use Rattle.model.specs.Members as list
-use Rattle.model.specs.Whole.{Whole}
+use Rattle.laws_list.specs.Whole.{Whole}
 use Rattle.member.specs.declared.Member.{Member}
 use Rattle.member.specs.declared.Members.{Members}
 use Rattle.member.specs.Views.{toMember, fromMember, nobody, viewMembers, packMembers, Packed, Held}
@@ -21,7 +21,7 @@ pub table-long : (m : Members) → Packed m → length (m .table) ≡ 64
 table-long m p = ap length (p .table) ∙ length-padTo 64 nobody (take (m .len) (m .table)) (omega (arith, length-take (m .len) (m .table), p .few))
 
 pub order-long : (m : Members) → Packed m → length (m .order) ≡ 64
-order-long m p = ap length (p .order) ∙ length-padTo 64 (ipv4 .blank) (take (m .len) (m .order)) (omega (arith, length-take (m .len) (m .order), p .few))
+order-long m p = ap length (p .order) ∙ length-padTo 64 (here .blank) (take (m .len) (m .order)) (omega (arith, length-take (m .len) (m .order), p .few))
 
 -- the used part of a packed row
 pub table-used : (m : Members) → Packed m → length (take (m .len) (m .table)) ≡ m .len
@@ -35,26 +35,22 @@ pub view-many : (m : Members) → Packed m → length (viewMembers m .table) ≡
 unfolding viewMembers
 view-many m p = length-map (take (m .len) (m .table)) toMember ∙ table-used m p
 
-pub view-order : (m : Members) → Packed m → length (viewMembers m .order) ≡ m .len
-unfolding viewMembers
-view-order m p = order-used m p
-
 -- a record of the rows is a record of the list
 pub from-to : (t : List Member) → map fromMember (map toMember t) ≡ t
 from-to [] = refl
 from-to (m ∷ t) = ap (λ (l : List Member). m ∷ l) (from-to t)
 
-pub to-from : (t : List (words.Member ℕ)) → map toMember (map fromMember t) ≡ t
+pub to-from : (t : List (words.Member Addr)) → map toMember (map fromMember t) ≡ t
 to-from [] = refl
-to-from (m ∷ t) = ap (λ (l : List (words.Member ℕ)). m ∷ l) (to-from t)
+to-from (m ∷ t) = ap (λ (l : List (words.Member Addr)). m ∷ l) (to-from t)
 
 -- what is packed is read back
-pub view-pack : (l : list.Members ℕ) → length (l .order) ≡ length (l .table) → viewMembers (packMembers l) ≡ l
+pub view-pack : (l : list.Members Addr) → length (l .order) ≡ length (l .table) → viewMembers (packMembers l) ≡ l
 unfolding viewMembers packMembers
 view-pack l e =
     let t : map toMember (take (length (l .table)) (padTo 64 nobody (map fromMember (l .table)))) ≡ l .table =
     ap (map toMember) (take-at (map fromMember (l .table)) _ (length (l .table)) (length-map (l .table) fromMember)) ∙ to-from (l .table) in
-    let o : take (length (l .table)) (padTo 64 (ipv4 .blank) (l .order)) ≡ l .order = take-at (l .order) _ (length (l .table)) e in
+    let o : take (length (l .table)) (padTo 64 (here .blank) (l .order)) ≡ l .order = take-at (l .order) _ (length (l .table)) e in
     λ i. record { table = t i; order = o i; position = l .position }
 
 -- what is read is packed back
@@ -66,19 +62,19 @@ pack-view m p =
     let n : length (map toMember (take (m .len) (m .table))) ≡ m .len = length-map (take (m .len) (m .table)) toMember ∙ table-used m p in
     λ i. record { table = t i; order = sym (p .order) i; len = n i; position = m .position }
 
-pub packed-pack : (l : list.Members ℕ) → length (l .order) ≡ length (l .table) → length (l .table) ≤ 64 → Packed (packMembers l)
+pub packed-pack : (l : list.Members Addr) → length (l .order) ≡ length (l .table) → length (l .table) ≤ 64 → Packed (packMembers l)
 unfolding packMembers
 packed-pack l e h =
     record {
       few = h;
       table = sym (ap (padTo 64 nobody) (take-at (map fromMember (l .table)) _ (length (l .table)) (length-map (l .table) fromMember)));
-      order = sym (ap (padTo 64 (ipv4 .blank)) (take-at (l .order) _ (length (l .table)) e));
+      order = sym (ap (padTo 64 (here .blank)) (take-at (l .order) _ (length (l .table)) e));
     }
 
 -- a whole list is held by its rows: so one call's rows are the next call's
-pub held-pack : (l : list.Members ℕ) → Whole (ipv4 .same) l → Held (packMembers l)
+pub held-pack : (l : list.Members Addr) → Whole (here .same) l → Held (packMembers l)
 held-pack l w =
     record {
       packed = packed-pack l (w .long) (w .few);
-      whole = subst (λ (x : list.Members ℕ). Whole (ipv4 .same) x) (sym (view-pack l (w .long))) w;
+      whole = subst (λ (x : list.Members Addr). Whole (here .same) x) (sym (view-pack l (w .long))) w;
     }

@@ -8,10 +8,10 @@ use lib.ListN.{length, take, drop}
 use Rattle.model.specs.declared.State.the-variants.{Alive}
 use Rattle.model.specs.Rows.{padTo}
 use Rattle.model.specs.Answers.{Answer, done, refused}
-use Rattle.model.specs.IPv4.{ipv4}
+use Rattle.address.specs.Here.{Addr, here}
 use Rattle.model.specs.Words as words
 use Rattle.model.specs.Members as list
-use Rattle.model.specs.Whole.{Whole}
+use Rattle.laws_list.specs.Whole.{Whole}
 use Rattle.order.specs.declared.Exclusion.{Exclusion}
 use Rattle.order.specs.Views.{drewOf, excluded, pickedRow}
 use Rattle.member.specs.declared.Member.{Member}
@@ -19,68 +19,68 @@ use Rattle.member.specs.declared.Members.{Members}
 use Rattle.member.specs.declared.Kept.{Kept}
 use Rattle.member.specs.declared.Picked.{Picked}
 
-abbrev pub toMember : Member → words.Member ℕ
+abbrev pub toMember : Member → words.Member Addr
 toMember m = record { addr = m .addr; state = m .state; number = m .number }
 
-abbrev pub fromMember : words.Member ℕ → Member
+abbrev pub fromMember : words.Member Addr → Member
 fromMember m = record { addr = m .addr; state = m .state; number = m .number }
 
 -- an unused place
 abbrev pub nobody : Member
-nobody = fromMember (words.noMember ipv4)
+nobody = fromMember (words.noMember here)
 
-abbrev pub addrOf : Member → ℕ
+abbrev pub addrOf : Member → Addr
 addrOf m = m .addr
 
-abbrev pub blankAddress : ℕ → Bool
-blankAddress a = ipv4 .same a (ipv4 .blank)
+abbrev pub blankAddress : Addr → Bool
+blankAddress a = here .same a (here .blank)
 
 -- the list that the rows hold
-unfoldable pub viewMembers : Members → list.Members ℕ
+unfoldable pub viewMembers : Members → list.Members Addr
 viewMembers m = record { table = map toMember (take (m .len) (m .table)); order = take (m .len) (m .order); position = m .position }
 
 -- the rows that hold a list: every unused place is zero
-unfoldable pub packMembers : list.Members ℕ → Members
+unfoldable pub packMembers : list.Members Addr → Members
 packMembers l =
-    record { table = padTo 64 nobody (map fromMember (l .table)); order = padTo 64 (ipv4 .blank) (l .order); len = length (l .table); position = l .position }
+    record { table = padTo 64 nobody (map fromMember (l .table)); order = padTo 64 (here .blank) (l .order); len = length (l .table); position = l .position }
 
 -- "it lists that address Alive at place 0"
-abbrev pub freshList : ℕ → ℕ → list.Members ℕ
+abbrev pub freshList : Addr → ℕ → list.Members Addr
 freshList own number = record { table = record { addr = own; state = Alive; number = number } ∷ []; order = own ∷ []; position = 0 }
 
 -- the rows hold len places, and zeros behind
 pub record Packed (m : Members) : Type 0 where
   pub few : m .len ≤ 64
   pub table : m .table ≡ padTo 64 nobody (take (m .len) (m .table))
-  pub order : m .order ≡ padTo 64 (ipv4 .blank) (take (m .len) (m .order))
+  pub order : m .order ≡ padTo 64 (here .blank) (take (m .len) (m .order))
 
 -- what each function asks of a list: its rows are packed, and the list they hold is whole
 pub record Held (m : Members) : Type 0 where
   pub packed : Packed m
-  pub whole : Whole (ipv4 .same) (viewMembers m)
+  pub whole : Whole (here .same) (viewMembers m)
 
 -- a rule's answer in rows: where it is refused the members are as they came
-abbrev pub keptMembers : Members → Answer (list.Members ℕ) → Members
+abbrev pub keptMembers : Members → Answer (list.Members Addr) → Members
 keptMembers m (refused r) = m
 keptMembers m (done l rest) = packMembers l
 
-abbrev pub keptAs : Members → ℕ → Answer (list.Members ℕ) → Kept
+abbrev pub keptAs : Members → ℕ → Answer (list.Members Addr) → Kept
 keptAs m k x = record { members = keptMembers m x; drew = drewOf k x }
 
-abbrev pub addedOf : Members → ℕ → ℕ → List ℕ → ℕ → Kept
-addedOf m a number draws from = keptAs m (length draws - from) (list.add (ipv4 .same) a number (viewMembers m) (drop from draws))
+abbrev pub addedOf : Members → Addr → ℕ → List ℕ → ℕ → Kept
+addedOf m a number draws from = keptAs m (length draws - from) (list.add (here .same) a number (viewMembers m) (drop from draws))
 
 abbrev pub advancedOf : Members → List ℕ → ℕ → Kept
-advancedOf m draws from = keptAs m (length draws - from) (list.advance (ipv4 .blank) (viewMembers m) (drop from draws))
+advancedOf m draws from = keptAs m (length draws - from) (list.advance (here .blank) (viewMembers m) (drop from draws))
 
-abbrev pub pickedMembers : Members → Answer (list.Picked ℕ) → Members
+abbrev pub pickedMembers : Members → Answer (list.Picked Addr) → Members
 pickedMembers m (refused r) = m
 pickedMembers m (done p rest) = packMembers (p .members)
 
-abbrev pub pickedAs : Members → ℕ → Answer (list.Picked ℕ) → Picked
+abbrev pub pickedAs : Members → ℕ → Answer (list.Picked Addr) → Picked
 pickedAs m k x = record { members = pickedMembers m x; picks = pickedRow x; drew = drewOf k x }
 
-abbrev pub pickedOf : Members → ℕ → Exclusion → ℕ → List ℕ → ℕ → Picked
+abbrev pub pickedOf : Members → Addr → Exclusion → ℕ → List ℕ → ℕ → Picked
 pickedOf m own e wanted draws from =
     pickedAs m (length draws - from)
-    (list.pickFrom (ipv4 .same) (ipv4 .blank) own (excluded e) wanted (viewMembers m) (drop from draws))
+    (list.pickFrom (here .same) (here .blank) own (excluded e) wanted (viewMembers m) (drop from draws))

@@ -2,9 +2,9 @@
 pub mod sound;
 
 use address::Address;
+use model::Drew;
 use model::Refusal;
 use model::State;
-use order::Drew;
 use order::Exclusion;
 use order::Order;
 use order::Picks;
@@ -13,10 +13,10 @@ ghost use mathlib.Core.List.{map};
 ghost use Prim.Native.Nat.{_+_, _-_, _≤_, _<_};
 ghost use lib.ListN.{length, take, getD};
 ghost use lib.Dec.{eqb};
-ghost use Rattle.model.specs.IPv4.{ipv4};
+ghost use Rattle.address.specs.Here.{here};
 ghost use Rattle.model.specs.Words.{noMember};
 ghost use Rattle.model.specs.Rows.{padTo, removeAt};
-ghost use Rattle.model.specs.Places.{placeOf};
+ghost use Rattle.laws_list.specs.Places.{placeOf};
 ghost use Rattle.model.specs.Members as list;
 ghost use Rattle.member.specs.Views.{toMember, fromMember, nobody, viewMembers, packMembers, freshList, Held, addedOf, advancedOf, pickedOf};
 
@@ -51,7 +51,7 @@ pub struct Members {
 // The first place of the table that holds an address, or n where none of the first n does.
 fn place_of(table: [Member; Members::CAPACITY], n: usize, a: Address) -> usize
     requires { ⌜ (n ≤ 64) × (length table ≡ 64) ⌝ }
-    ensures { λ r. ⌜ r ≡ placeOf (ipv4 .same) a (list.addrs (map toMember (take n table))) ⌝ }
+    ensures { λ r. ⌜ r ≡ placeOf (here .same) a (list.addrs (map toMember (take n table))) ⌝ }
     ensures within { λ r. ⌜ r ≤ n ⌝ }
 {
     let mut i = 0;
@@ -89,7 +89,7 @@ fn close_up(
 
 // If position now equals the length, position - 1, but 0 on an emptied list.
 fn position_after(position: usize, len: usize) -> usize
-    ensures { λ r. ⌜ r ≡ list.positionAfter (ipv4 .same) position len ⌝ }
+    ensures { λ r. ⌜ r ≡ list.positionAfter (here .same) position len ⌝ }
 {
     if position != len {
         return position;
@@ -154,7 +154,7 @@ impl Members {
     // The record at a place of the list.
     pub fn member(self, place: usize) -> Member
         requires { ⌜ Held self × (place < self .len) ⌝ }
-        ensures { λ r. ⌜ r ≡ fromMember (getD (viewMembers self .table) place (noMember ipv4)) ⌝ }
+        ensures { λ r. ⌜ r ≡ fromMember (getD (viewMembers self .table) place (noMember here)) ⌝ }
     {
         let table = self.table;
         table[place]
@@ -163,7 +163,7 @@ impl Members {
     // Is an address listed?
     pub fn lists(self, a: Address) -> bool
         requires { ⌜ Held self ⌝ }
-        ensures { λ r. ⌜ r ≡ list.listed (ipv4 .same) a (viewMembers self .table) ⌝ }
+        ensures { λ r. ⌜ r ≡ list.listed (here .same) a (viewMembers self .table) ⌝ }
     {
         let table = self.table;
         let n = self.len;
@@ -173,7 +173,7 @@ impl Members {
     // The state of a listed address; Alive where it is not listed.
     pub fn member_state(self, a: Address) -> State
         requires { ⌜ Held self ⌝ }
-        ensures { λ r. ⌜ r ≡ list.heldState (ipv4 .same) a (viewMembers self .table) ⌝ }
+        ensures { λ r. ⌜ r ≡ list.heldState (here .same) a (viewMembers self .table) ⌝ }
     {
         let table = self.table;
         let n = self.len;
@@ -188,7 +188,7 @@ impl Members {
     // The number of a listed address; 0 where it is not listed.
     pub fn member_number(self, a: Address) -> u64
         requires { ⌜ Held self ⌝ }
-        ensures { λ r. ⌜ r ≡ list.held (ipv4 .same) a (viewMembers self .table) ⌝ }
+        ensures { λ r. ⌜ r ≡ list.held (here .same) a (viewMembers self .table) ⌝ }
     {
         let table = self.table;
         let n = self.len;
@@ -243,7 +243,7 @@ impl Members {
     // An address leaves the list and the order. One that is not listed leaves the members as they came.
     pub fn remove_member(self, a: Address) -> Members
         requires { ⌜ Held self ⌝ }
-        ensures { λ r. ⌜ r ≡ packMembers (list.remove (ipv4 .same) a (viewMembers self)) ⌝ }
+        ensures { λ r. ⌜ r ≡ packMembers (list.remove (here .same) a (viewMembers self)) ⌝ }
     {
         let n = self.len;
         let table = self.table;
@@ -265,7 +265,7 @@ impl Members {
     // The record of a listed address is replaced. One that is not listed leaves the members as they came.
     pub fn update_member(self, member: Member) -> Members
         requires { ⌜ Held self ⌝ }
-        ensures { λ r. ⌜ r ≡ packMembers (list.update (ipv4 .same) (toMember member) (viewMembers self)) ⌝ }
+        ensures { λ r. ⌜ r ≡ packMembers (list.update (here .same) (toMember member) (viewMembers self)) ⌝ }
     {
         let n = self.len;
         let mut table = self.table;

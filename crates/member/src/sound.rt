@@ -8,7 +8,7 @@ ghost use mathlib.Core.Bool.{_&&_};
 ghost use mathlib.Core.List.{map};
 ghost use Prim.Native.Nat.{_≤_};
 ghost use lib.ListN.{take, drop};
-ghost use Rattle.model.specs.IPv4.{ipv4};
+ghost use Rattle.address.specs.Here.{here};
 ghost use Rattle.model.specs.Rows.{every};
 ghost use Rattle.model.specs.Sound.{distinct, permutes, positioned, isNoMember, soundMembers};
 ghost use Rattle.member.specs.Views.{toMember, addrOf, blankAddress};
@@ -41,7 +41,7 @@ fn addresses(table: [Member; Members::CAPACITY]) -> [Address; Members::CAPACITY]
 // that none before it was found at.
 fn matches(row: [Address; Members::CAPACITY], order: [Address; Members::CAPACITY], n: usize) -> bool
     requires { ⌜ n ≤ 64 ⌝ }
-    ensures { λ r. ⌜ r ≡ (distinct (ipv4 .same) (take n row) && permutes (ipv4 .same) (take n order) (take n row)) ⌝ }
+    ensures { λ r. ⌜ r ≡ (distinct (here .same) (take n row) && permutes (here .same) (take n order) (take n row)) ⌝ }
 {
     let mut marks = [false; Members::CAPACITY];
     let mut i = 0;
@@ -62,7 +62,7 @@ fn matches(row: [Address; Members::CAPACITY], order: [Address; Members::CAPACITY
 // Are the first n of a row in range?
 fn all_in_range(row: [Address; Members::CAPACITY], n: usize) -> bool
     requires { ⌜ n ≤ 64 ⌝ }
-    ensures { λ r. ⌜ r ≡ every (ipv4 .valid) (take n row) ⌝ }
+    ensures { λ r. ⌜ r ≡ every (here .valid) (take n row) ⌝ }
 {
     let mut i = 0;
     while i < n {
@@ -76,7 +76,7 @@ fn all_in_range(row: [Address; Members::CAPACITY], n: usize) -> bool
 
 // Is a record that of an unused place?
 fn is_unused(m: Member) -> bool
-    ensures { λ r. ⌜ r ≡ isNoMember ipv4 (toMember m) ⌝ }
+    ensures { λ r. ⌜ r ≡ isNoMember here (toMember m) ⌝ }
 {
     if !address::same(m.addr, address::blank()) {
         return false;
@@ -92,7 +92,7 @@ fn is_unused(m: Member) -> bool
 // Is every place of the table from n on unused?
 fn table_ends(table: [Member; Members::CAPACITY], n: usize) -> bool
     requires { ⌜ n ≤ 64 ⌝ }
-    ensures { λ r. ⌜ r ≡ every (isNoMember ipv4) (drop n (map toMember table)) ⌝ }
+    ensures { λ r. ⌜ r ≡ every (isNoMember here) (drop n (map toMember table)) ⌝ }
 {
     let mut i = n;
     while i < Members::CAPACITY {
@@ -122,7 +122,7 @@ fn order_ends(order: [Address; Members::CAPACITY], n: usize) -> bool
 
 // Counts, distinct addresses, the order a permutation of them, the position, addresses in range, and every unused place zero.
 pub fn sound_members(m: Members) -> bool
-    ensures { λ r. ⌜ r ≡ soundMembers ipv4 (map toMember (m .table)) (m .order) (m .len) (m .position) ⌝ }
+    ensures { λ r. ⌜ r ≡ soundMembers here (map toMember (m .table)) (m .order) (m .len) (m .position) ⌝ }
 {
     let n = m.len;
     if Members::CAPACITY < n {

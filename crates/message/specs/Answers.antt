@@ -1,13 +1,12 @@
 -- What a message call gives, in rows.
 -- Assumes nothing.
-use mathlib.Core.Path.{_≡_}
-use mathlib.Core.List.{List, [], _∷_, _++_, map}
+use mathlib.Core.List.{List, _++_, map}
 use Prim.Native.Nat.{ℕ, _-_}
 use lib.ListN.{length, take, replicate, set}
 use Rattle.model.specs.declared.Refusal.{Refusal}
 use Rattle.model.specs.declared.Reply.the-variants as reply
 use Rattle.model.specs.Rows.{padTo}
-use Rattle.model.specs.IPv4.{ipv4}
+use Rattle.address.specs.Here.{Addr, here}
 use Rattle.model.specs.Words as W
 use Rattle.model.specs.Node as M
 use Rattle.model.specs.Handler as handler
@@ -17,13 +16,14 @@ use Rattle.types.specs.declared.Action.{Action}
 use Rattle.types.specs.declared.Action.the-variants as action
 use Rattle.types.specs.declared.Optional.{Optional}
 use Rattle.types.specs.declared.Optional.the-variants.{Absent, Given}
-use Rattle.types.specs.Views.{toGossip, fromGossip, noGossip}
+use Rattle.types.specs.Views.{fromGossip, noGossip}
 use Rattle.node.specs.declared.Node.{Node}
 use Rattle.node.specs.declared.Letter.{Letter}
 use Rattle.node.specs.declared.Answer.{Answer}
-use Rattle.node.specs.Views.{viewNode, packNode, noLetter, plainAnswer, answerOf, spreadOf}
+use Rattle.node.specs.Views.{viewNode, packNode, storedView, noLetter, plainAnswer, answerOf, spreadOf}
 use Rattle.message.specs.declared.gossip.Heard.{Heard}
 use Rattle.message.specs.declared.Received.{Received}
+use Rattle.message.specs.Views.{recordsOf}
 
 abbrev pub noRows : List Gossip
 noRows = replicate 64 noGossip
@@ -35,9 +35,9 @@ abbrev pub refusedReceived : Node → Refusal → Received
 refusedReceived n r = record { answer = plainAnswer (reply.Refused r) n; gossip = noRows; written = 0; events = replicate 65 noGossip; reported = 0 }
 
 -- one message goes out with gossip chosen for it
-abbrev pub answeredOf : ℕ → Heard → ℕ → Action → Received
+abbrev pub answeredOf : ℕ → Heard → Addr → Action → Received
 answeredOf used h target a =
-    let c = spreadOf (M.spread ipv4 (viewNode (h .node))) in
+    let c = spreadOf (M.spread here (viewNode (h .node))) in
     record {
       answer = oneLetter used (c .node) (record { target = target; action = a; count = c .count });
       gossip = c .rows;
@@ -47,10 +47,10 @@ answeredOf used h target a =
     }
 
 -- an Ack's sender is Alive
-abbrev pub settledOf : ℕ → Heard → ℕ → Received
+abbrev pub settledOf : ℕ → Heard → Addr → Received
 settledOf used h from =
     record {
-      answer = plainAnswer (reply.Done used) (packNode (handler.acked ipv4 from (viewNode (h .node))));
+      answer = plainAnswer (reply.Done used) (packNode (handler.acked here from (viewNode (h .node))));
       gossip = noRows;
       written = 0;
       events = h .events;
@@ -58,7 +58,7 @@ settledOf used h from =
     }
 
 -- an Ack goes on
-abbrev pub forwardedOf : ℕ → Heard → ℕ → ℕ → List Gossip → ℕ → Received
+abbrev pub forwardedOf : ℕ → Heard → Addr → Addr → List Gossip → ℕ → Received
 forwardedOf used h from to rows given =
     record {
       answer = oneLetter used (h .node) (record { target = to; action = action.Ack from Absent; count = given });
@@ -68,12 +68,12 @@ forwardedOf used h from to rows given =
       reported = h .reported;
     }
 
-abbrev pub acknowledgedOf : ℕ → Heard → ℕ → List Gossip → ℕ → Optional → Received
+abbrev pub acknowledgedOf : ℕ → Heard → Addr → List Gossip → ℕ → Optional → Received
 acknowledgedOf used h from rows given Absent = settledOf used h from
 acknowledgedOf used h from rows given (Given to) = forwardedOf used h from to rows given
 
 -- the outcome of a message call
-unfoldable pub receivedOf : calls.Outcome ℕ → Received
+unfoldable pub receivedOf : calls.Outcome Addr → Received
 receivedOf o =
     record {
       answer = answerOf o;
@@ -83,6 +83,10 @@ receivedOf o =
       reported = length (o .events);
     }
 
+-- the outcome of the rules of a message, on a node that passed the tests
+abbrev pub handledOf : Node → W.Action Addr → List Gossip → ℕ → List ℕ → Received
+handledOf n a rows given draws = receivedOf (calls.kept here (storedView n) draws (handler.handle here a (recordsOf rows given) (viewNode n) draws))
+
 -- the records that a host lends: the first of them stand in a row, and of those past 64 only how many there are plays a part
-unfoldable pub lentRows : List Gossip → ℕ → List (W.Gossip ℕ)
-lentRows rows given = map toGossip (take given rows) ++ replicate (given - 64) W.nothing
+unfoldable pub lentRows : List Gossip → ℕ → List (W.Gossip Addr)
+lentRows rows given = recordsOf rows given ++ replicate (given - 64) W.nothing

@@ -8,20 +8,22 @@ use Prim.Native.Nat.{ℕ, _≤_}
 use native.Mathlib.Omega.{arith}
 use lib.ListN.{length, length-append}
 use Rattle.model.specs.declared.Refusal.{Refusal}
+use Rattle.model.specs.declared.Kind.the-variants as kind
 use Rattle.model.specs.Rows.{every}
-use Rattle.model.specs.Bools.{and-split}
+use Rattle.laws.specs.Bools.{and-split}
 use Rattle.model.specs.Answers.{Answer, done, refused}
-use Rattle.model.specs.After.{After, gives, after-then, after-both}
-use Rattle.model.specs.IPv4.{ipv4, ipv4-lawful}
+use Rattle.laws.specs.After.{After, gives, after-then, after-both}
+use Rattle.address.specs.Here.{Addr, here, here-lawful}
 use Rattle.model.specs.Words as W
 use Rattle.model.specs.Limit.{limitOf}
 use Rattle.model.specs.Choose.{termsOf}
-use Rattle.model.specs.Chosen.{at-most-58}
+use Rattle.disseminate.specs.Fit.{at-most-58}
 use Rattle.model.specs.Node as M
 use Rattle.model.specs.Handler as handler
 use Rattle.model.specs.Sound.{validGossip}
-use Rattle.model.specs.Good.{Good, ranges}
-use Rattle.model.specs.Keeps.{gossip-keeps, admit-keeps}
+use Rattle.laws_node.specs.Good.{Good}
+use Rattle.laws.specs.Ranges.{ranges}
+use Rattle.laws_rules.specs.Keeps.{gossip-keeps, admit-keeps}
 use Rattle.model.specs.Calls as calls
 use Rattle.node.specs.declared.Node.{Node}
 use Rattle.message.specs.declared.Received.{Received}
@@ -29,49 +31,49 @@ use Rattle.message.specs.Drawn.{gossip-few, admit-few}
 use Rattle.message.specs.Answers.{refusedReceived, receivedOf}
 
 -- what rules leave of a good node, and at most so many events
-abbrev Said : ℕ → M.Out ℕ → Type 0
-Said k o = Good ipv4 (o .node) × (length (o .said) ≤ k)
+abbrev Said : ℕ → M.Out Addr → Type 0
+Said k o = Good here (o .node) × (length (o .said) ≤ k)
 
-abbrev Within : M.Effect ℕ → Type 0
+abbrev Within : M.Effect Addr → Type 0
 Within e = (length (calls.packed (e .messages)) ≤ 64) × (length (e .events) ≤ 65)
 
-spread-few : (s : M.Node ℕ) → Good ipv4 s → length (M.spread ipv4 s .gossip) ≤ 58
+spread-few : (s : M.Node Addr) → Good here s → length (M.spread here s .gossip) ≤ 58
 unfolding M.spread termsOf
 spread-few s g =
-    at-most-58 (termsOf (s .settings .«max_selected») (s .settings .«max_size») (limitOf (length (s .members .table)) (s .settings .«send_constant»))) (s .alive) (s .deceased) (ranges (s .settings) (g .settings) .most-size) (g .alive) (g .deceased)
+    at-most-58 (termsOf (s .settings .«max_selected») (s .settings .«max_size») (limitOf (length (s .members .table)) (s .settings .«send_constant»))) (s .disseminator .alive) (s .disseminator .deceased) (ranges (s .settings) (g .settings) .most-size) (g .heaps kind.Alive) (g .heaps kind.Deceased)
 
-answered-within : (target : ℕ) (a : W.Action ℕ) (o : M.Out ℕ) → Said 65 o → Within (handler.answerTo ipv4 target a o)
+answered-within : (target : Addr) (a : W.Action Addr) (o : M.Out Addr) → Said 65 o → Within (handler.answerTo here target a o)
 unfolding handler.answerTo
-answered-within target a o p = (omega (arith, length-append (M.spread ipv4 (o .node) .gossip) [], spread-few (o .node) (p .0)), p .1)
+answered-within target a o p = (omega (arith, length-append (M.spread here (o .node) .gossip) [], spread-few (o .node) (p .0)), p .1)
 
-module _ (gs : List (W.Gossip ℕ)) (s : M.Node ℕ) (ds : List ℕ) (good : Good ipv4 s) (few : length gs ≤ 64) (valid : every (validGossip ipv4) gs ≡ true) where
-  heard : After (Said 64) (handler.gossip ipv4 gs s ds)
-  heard = after-both (λ o k f. (k .good, omega (arith, f, few))) (gossip-keeps ipv4 ipv4-lawful gs s ds good valid) (gossip-few ipv4 gs s ds)
+module _ (gs : List (W.Gossip Addr)) (s : M.Node Addr) (ds : List ℕ) (good : Good here s) (few : length gs ≤ 64) (valid : every (validGossip here) gs ≡ true) where
+  heard : After (Said 64) (handler.gossip here gs s ds)
+  heard = after-both (λ o k f. (k .good, omega (arith, f, few))) (gossip-keeps here here-lawful gs s ds good valid) (gossip-few here gs s ds)
 
-  admitted : (from : ℕ) → ipv4 .valid from ≡ true → After (Said 65) (M.andMore (handler.gossip ipv4 gs s ds) (handler.admit ipv4 from))
+  admitted : (from : Addr) → here .valid from ≡ true → After (Said 65) (M.andMore (handler.gossip here gs s ds) (handler.admit here from))
   unfolding M.andMore
   admitted from v =
       after-then heard (λ o rest p.
-      after-then {P = Said 1} (after-both (λ q k f. (k .good, f)) (admit-keeps ipv4 ipv4-lawful from (o .node) rest (p .0) v) (admit-few ipv4 from (o .node) rest)) (λ q rest₂ r.
+      after-then {P = Said 1} (after-both (λ q k f. (k .good, f)) (admit-keeps here here-lawful from (o .node) rest (p .0) v) (admit-few here from (o .node) rest)) (λ q rest₂ r.
       gives (r .0, omega (arith, p .1, r .1, length-append (o .said) (q .said)))))
 
-  handled : (action : W.Action ℕ) → calls.validAction ipv4 action ≡ true → After Within (handler.handle ipv4 action gs s ds)
+  handled : (action : W.Action Addr) → calls.validAction here action ≡ true → After Within (handler.handle here action gs s ds)
   unfolding handler.handle handler.forwarded calls.validAction
   handled (W.Ping from by) v = after-then (admitted from (and-split _ _ v .0)) (λ o rest p. gives (answered-within _ _ o p))
   handled (W.PingReq from suspect) v = after-then heard (λ o rest p. gives (answered-within _ _ o (p .0, omega (arith, p .1))))
   handled (W.Ack from none) v = after-then heard (λ o rest p. gives (omega arith, omega (arith, p .1)))
   handled (W.Ack from (some to)) v = after-then heard (λ o rest p. gives (omega (arith, few, length-append gs []), omega (arith, p .1)))
 
-  kept-within : (t : M.Stored ℕ) (x : Answer (M.Effect ℕ)) → After Within x → (receivedOf (calls.kept ipv4 t ds x) .written ≤ 64) × (receivedOf (calls.kept ipv4 t ds x) .reported ≤ 65)
+  kept-within : (t : M.Stored Addr) (x : Answer (M.Effect Addr)) → After Within x → (receivedOf (calls.kept here t ds x) .written ≤ 64) × (receivedOf (calls.kept here t ds x) .reported ≤ 65)
   unfolding receivedOf
   kept-within t (refused r) p = (omega arith, omega arith)
   kept-within t (done e rest) (gives p) = p
 
   -- the rows of a message call have room for what it gives
-  pub received-within : (action : W.Action ℕ) → calls.validAction ipv4 action ≡ true → (t : M.Stored ℕ) (r : Received) → r ≡ receivedOf (calls.kept ipv4 t ds (handler.handle ipv4 action gs s ds))
+  pub received-within : (action : W.Action Addr) → calls.validAction here action ≡ true → (t : M.Stored Addr) (r : Received) → r ≡ receivedOf (calls.kept here t ds (handler.handle here action gs s ds))
       → (r .written ≤ 64) × (r .reported ≤ 65)
   received-within action v t r e =
-      let k = kept-within t (handler.handle ipv4 action gs s ds) (handled action v) in
+      let k = kept-within t (handler.handle here action gs s ds) (handled action v) in
       (omega (arith, k .0, ap (λ (x : Received). x .written) e), omega (arith, k .1, ap (λ (x : Received). x .reported) e))
 
 -- a refusal writes and reports nothing

@@ -1,8 +1,6 @@
 pub mod Views
-pub mod Ruling
-pub mod Nexts
-pub mod Entering
 pub mod Drawn
+pub mod Acting
 pub mod Hearing
 pub mod Answers
 pub mod Outcomes

@@ -1,19 +1,18 @@
 -- The tests of a message call in their order, and what each of them gives.
 -- Assumes nothing.
-use mathlib.Core.Path.{_≡_, refl, ap, sym, _∙_}
-use mathlib.Core.Bool.{Bool, true, false, not, _&&_, _||_}
+use mathlib.Core.Path.{_≡_, ap, sym, _∙_}
+use mathlib.Core.Bool.{Bool, true, false, not, _&&_}
 use mathlib.Core.List.{List, [], _∷_, _++_, map, append-nil}
-use Prim.Native.Nat.{ℕ, _+_, _-_, _≤_, _<_}
+use Prim.Native.Nat.{ℕ, _-_, _≤_, _<_}
 use native.Mathlib.Omega.{arith}
 use lib.ListN.{length, take, replicate, length-append, length-replicate, length-map}
-use lib.Seq.{length-take-le, take-all}
 use lib.Dec.{ltb}
 use borrow.Author.Tests.{lt-ltb, le-ltb}
 use Rattle.model.specs.declared.Refusal.{Refusal}
 use Rattle.model.specs.declared.Refusal.the-variants.{Unsound, ShortRow, ManyRecords, AddressRange}
 use Rattle.model.specs.Bounds.{Room}
 use Rattle.model.specs.Rows.{every}
-use Rattle.model.specs.IPv4.{ipv4}
+use Rattle.address.specs.Here.{Addr, here}
 use Rattle.model.specs.Words as W
 use Rattle.model.specs.Node as M
 use Rattle.model.specs.Handler as handler
@@ -25,7 +24,6 @@ use Rattle.node.specs.declared.Node.{Node}
 use Rattle.node.specs.Views.{viewNode, storedView}
 use Rattle.node.specs.Rows.{loaded-view}
 use Rattle.node.specs.Ends.{test-fails, test-passes}
-use Rattle.message.specs.declared.Received.{Received}
 use Rattle.message.specs.Answers.{refusedReceived, receivedOf, lentRows}
 use Rattle.message.specs.Outcomes.{refused-is}
 
@@ -34,7 +32,7 @@ pub lent-count : (rows : List Gossip) (given : ℕ) → length rows ≡ 64 → l
 unfolding lentRows
 lent-count rows given long =
     length-append (map toGossip (take given rows)) (replicate (given - 64) W.nothing)
-    ∙ omega (arith, length-map (take given rows) toGossip, length-replicate (given - 64) (W.nothing {A = ℕ}), lib.ListN.length-take given rows)
+    ∙ omega (arith, length-map (take given rows) toGossip, length-replicate (given - 64) (W.nothing {A = Addr}), lib.ListN.length-take given rows)
 
 -- no more than 64 are lent: they are the first of the row
 pub lent-few : (rows : List Gossip) (given : ℕ) → given ≤ 64 → lentRows rows given ≡ map toGossip (take given rows)
@@ -43,18 +41,18 @@ lent-few rows given few =
     let k : given - 64 ≡ 0 = omega arith in
     ap (λ (k : ℕ). map toGossip (take given rows) ++ replicate k W.nothing) k ∙ append-nil (map toGossip (take given rows))
 
-module _ (n : Node) (action : W.Action ℕ) (rows : List Gossip) (given : ℕ) (draws : List ℕ) (lent : Room) (long : length rows ≡ 64) where
-  abbrev s : M.Stored ℕ
+module _ (n : Node) (action : W.Action Addr) (rows : List Gossip) (given : ℕ) (draws : List ℕ) (lent : Room) (long : length rows ≡ 64) where
+  abbrev s : M.Stored Addr
   s = storedView n
 
-  abbrev gs : List (W.Gossip ℕ)
+  abbrev gs : List (W.Gossip Addr)
   gs = lentRows rows given
 
-  abbrev go : calls.Outcome ℕ
-  go = calls.kept ipv4 s draws (handler.handle ipv4 action gs (M.loaded s) draws)
+  abbrev go : calls.Outcome Addr
+  go = calls.kept here s draws (handler.handle here action gs (M.loaded s) draws)
 
   abbrev one : Bool × Refusal
-  one = (not (sound ipv4 s), Unsound)
+  one = (not (sound here s), Unsound)
 
   abbrev two : Bool × Refusal
   two = (calls.short Rattle.model.specs.Bounds.message-room lent, ShortRow)
@@ -63,16 +61,16 @@ module _ (n : Node) (action : W.Action ℕ) (rows : List Gossip) (given : ℕ) (
   three = (ltb 64 (length gs), ManyRecords)
 
   abbrev four : Bool × Refusal
-  four = (not (calls.validAction ipv4 action && every (validGossip ipv4) gs), AddressRange)
+  four = (not (calls.validAction here action && every (validGossip here) gs), AddressRange)
 
-  abbrev whole : calls.Outcome ℕ
-  whole = calls.message ipv4 s action gs draws lent
+  abbrev whole : calls.Outcome Addr
+  whole = calls.message here s action gs draws lent
 
-  pub not-sound : sound ipv4 s ≡ false → refusedReceived n Unsound ≡ receivedOf whole
+  pub not-sound : sound here s ≡ false → refusedReceived n Unsound ≡ receivedOf whole
   unfolding calls.message
   not-sound e = refused-is n Unsound ∙ sym (ap receivedOf (test-fails one (two ∷ three ∷ four ∷ []) (calls.refuses s) go (ap not e)))
 
-  module _ (e : sound ipv4 s ≡ true) where
+  module _ (e : sound here s ≡ true) where
     pub row-short : calls.short Rattle.model.specs.Bounds.message-room lent ≡ true → refusedReceived n ShortRow ≡ receivedOf whole
     unfolding calls.message
     row-short p =
@@ -98,17 +96,17 @@ module _ (n : Node) (action : W.Action ℕ) (rows : List Gossip) (given : ℕ) (
             ∙ test-passes two (three ∷ four ∷ []) (calls.refuses s) go p
             ∙ test-passes three (four ∷ []) (calls.refuses s) go (le-ltb 64 (length gs) (omega (arith, lent-count rows given long)))
 
-        pub out-of-range : (calls.validAction ipv4 action && every (validGossip ipv4) (map toGossip (take given rows))) ≡ false → refusedReceived n AddressRange ≡ receivedOf whole
+        pub out-of-range : (calls.validAction here action && every (validGossip here) (map toGossip (take given rows))) ≡ false → refusedReceived n AddressRange ≡ receivedOf whole
         out-of-range v =
             refused-is n AddressRange
-            ∙ sym (ap receivedOf (passed ∙ test-fails four [] (calls.refuses s) go (ap (λ (l : List (W.Gossip ℕ)). not (calls.validAction ipv4 action && every (validGossip ipv4) l)) (lent-few rows given h) ∙ ap not v)))
+            ∙ sym (ap receivedOf (passed ∙ test-fails four [] (calls.refuses s) go (ap (λ (l : List (W.Gossip Addr)). not (calls.validAction here action && every (validGossip here) l)) (lent-few rows given h) ∙ ap not v)))
 
-        pub in-range : (calls.validAction ipv4 action && every (validGossip ipv4) (map toGossip (take given rows))) ≡ true
-            → receivedOf (calls.kept ipv4 s draws (handler.handle ipv4 action (map toGossip (take given rows)) (viewNode n) draws)) ≡ receivedOf whole
+        pub in-range : (calls.validAction here action && every (validGossip here) (map toGossip (take given rows))) ≡ true
+            → receivedOf (calls.kept here s draws (handler.handle here action (map toGossip (take given rows)) (viewNode n) draws)) ≡ receivedOf whole
         in-range v =
             sym
             (ap receivedOf
             (passed
-            ∙ test-passes four [] (calls.refuses s) go (ap (λ (l : List (W.Gossip ℕ)). not (calls.validAction ipv4 action && every (validGossip ipv4) l)) (lent-few rows given h) ∙ ap not v)
-            ∙ ap (λ (l : List (W.Gossip ℕ)). calls.kept ipv4 s draws (handler.handle ipv4 action l (M.loaded s) draws)) (lent-few rows given h)
-            ∙ ap (λ (m : M.Node ℕ). calls.kept ipv4 s draws (handler.handle ipv4 action (map toGossip (take given rows)) m draws)) (loaded-view n)))
+            ∙ test-passes four [] (calls.refuses s) go (ap (λ (l : List (W.Gossip Addr)). not (calls.validAction here action && every (validGossip here) l)) (lent-few rows given h) ∙ ap not v)
+            ∙ ap (λ (l : List (W.Gossip Addr)). calls.kept here s draws (handler.handle here action l (M.loaded s) draws)) (lent-few rows given h)
+            ∙ ap (λ (m : M.Node Addr). calls.kept here s draws (handler.handle here action (map toGossip (take given rows)) m draws)) (loaded-view n)))

@@ -1,29 +1,34 @@
 // The gossip records of a message and its sender, one after the other, and what they report.
-use crate::rules::Told;
-use crate::rules::turn;
+use address::Address;
+use disseminate::Disseminator;
+use disseminate::Found;
+use disseminate::Pushed;
 use heap::Heap;
+use member::Members;
+use model::Drew;
 use model::Refusal;
 use node::Node;
-use order::Drew;
+use rules::News;
+use rules::Verdict;
 use types::Event;
 use types::Gossip;
 use types::Optional;
 ghost use mathlib.Core.Path.{_≡_};
 ghost use mathlib.Core.Bool.{true};
-ghost use mathlib.Core.List.{map};
-ghost use Prim.Native.Nat.{_≤_, _<_};
-ghost use lib.ListN.{length, take, replicate};
-ghost use Rattle.model.specs.IPv4.{ipv4};
-ghost use Rattle.model.specs.Rows.{every, pick};
-ghost use Rattle.model.specs.Sound.{validGossip};
+ghost use Prim.Native.Nat.{_<_};
+ghost use lib.ListN.{replicate};
+ghost use Rattle.address.specs.Here.{here};
 ghost use Rattle.model.specs.Node as M;
 ghost use Rattle.model.specs.Handler as handler;
 ghost use Rattle.model.specs.Calls as calls;
-ghost use Rattle.types.specs.Views.{toGossip, toOptional, noGossip};
-ghost use Rattle.heap.specs.Views.{Packed};
+ghost use Rattle.types.specs.Views.{toEvent, toOptional, noGossip};
+ghost use Rattle.heap.specs.Views.{heapView, Packed};
+ghost use Rattle.member.specs.Views.{viewMembers, Held};
+ghost use Rattle.disseminate.specs.Views.{fromFound, PackedHeaps};
 ghost use Rattle.node.specs.Views.{viewNode};
 ghost use Rattle.node.specs.Rows.{Ready};
-ghost use Rattle.message.specs.Views.{HeardAs, senderRule, isLiving, isDead, isTold, roomed, drewAfter, pushedTo, noted};
+ghost use Rattle.rules.specs.Views.{fromVerdict, toNews};
+ghost use Rattle.message.specs.Views.{recordsOf, Heeded, senderRule, verdictAt, deathFor, toldOf, noted, refusedHeard, heardOf};
 
 // What a message brings: its records, and the sender if it is to come in.
 pub struct Lent {
@@ -32,7 +37,7 @@ pub struct Lent {
     pub sender: Optional,
 }
 
-// What was heard: the node, the events to report and the draws used. Where a rule was refused, only that counts.
+// What was heard: the node, the events to report and the draws used. Where a rule was refused, the node as it came and nothing else.
 pub struct Heard {
     pub node: Node,
     pub events: [Gossip; Heard::EVENTS],
@@ -55,73 +60,54 @@ pub fn no_events() -> [Gossip; Heard::EVENTS]
     [nothing; Heard::EVENTS]
 }
 
-fn to_living(told: Told) -> bool
-    ensures { λ r. ⌜ r ≡ isLiving told ⌝ }
+// D of the address that joined. No other event is judged by it, so the heap is read for this one alone.
+fn death_of(deceased: Heap, event: Event) -> Found
+    requires { ⌜ Packed deceased ⌝ }
+    ensures { λ r. ⌜ r ≡ fromFound (deathFor (toEvent event) (heapView deceased)) ⌝ }
 {
-    match told {
-        Told::Nothing => false,
-        Told::Living => true,
-        Told::Dead => false,
+    match event {
+        Event::Joined {
+            from: _,
+            subject,
+            number: _,
+        } => disseminate::is_deceased(deceased, subject),
+        _ => Found::Missing,
     }
 }
 
-fn to_dead(told: Told) -> bool
-    ensures { λ r. ⌜ r ≡ isDead told ⌝ }
+// The verdict whose turn it is: on the records in their order, and behind them on the sender.
+fn verdict_at(members: Members, own: Address, deceased: Heap, lent: Lent, i: usize) -> Verdict
+    requires { ⌜ Held members × Packed deceased × Heeded (lent .rows) (lent .given) ⌝ }
+    ensures { λ r. ⌜ r ≡ fromVerdict (verdictAt own (viewMembers members .table) (heapView deceased) (recordsOf (lent .rows) (lent .given)) (toOptional (lent .sender)) i) ⌝ }
 {
-    match told {
-        Told::Nothing => false,
-        Told::Living => false,
-        Told::Dead => true,
+    if i < lent.given {
+        let rows = lent.rows;
+        let g = rows[i];
+        let event = g.event;
+        return rules::judge(members, own, death_of(deceased, event), event);
     }
-}
-
-fn is_told(told: Told) -> bool
-    ensures { λ r. ⌜ r ≡ isTold told ⌝ }
-{
-    match told {
-        Told::Nothing => false,
-        Told::Living => true,
-        Told::Dead => true,
-    }
-}
-
-// What a rule drew, where its event finds room in a heap of so many entries.
-fn with_room(drew: Drew, goes: bool, held: usize) -> Drew
-    ensures { λ r. ⌜ r ≡ roomed drew goes held ⌝ }
-{
-    match drew {
-        Drew::Used(used) => {
-            if !goes {
-                return Drew::Used(used);
-            }
-            if Heap::CAPACITY <= held {
-                return Drew::Refused(Refusal::HeapFull);
-            }
-            Drew::Used(used)
+    let sender = lent.sender;
+    match sender {
+        Optional::Absent => Verdict::Skip,
+        Optional::Given(a) => {
+            let dead = disseminate::is_deceased(deceased, a);
+            rules::judge_sender(members, dead, a)
         },
-        Drew::Refused(refusal) => Drew::Refused(refusal),
     }
 }
 
-// The same, where an event goes to one heap or the other.
-fn with_rooms(drew: Drew, told: Told, living: usize, dead: usize) -> Drew
-    ensures { λ r. ⌜ r ≡ drewAfter drew told living dead ⌝ }
+// News goes to its heap, or finds it full.
+fn tell(disseminator: Disseminator, news: News) -> Pushed
+    requires { ⌜ PackedHeaps disseminator ⌝ }
+    ensures { λ r. ⌜ r ≡ toldOf disseminator (toNews news) ⌝ }
 {
-    let first = with_room(drew, to_living(told), living);
-    with_room(first, to_dead(told), dead)
-}
-
-// The heap with an event that goes to it, or as it came.
-fn emit(heap: Heap, said: Gossip, goes: bool) -> Heap
-    requires { ⌜ Packed heap ⌝ }
-    ensures { λ r. ⌜ r ≡ pick goes (pushedTo heap said) heap ⌝ }
-{
-    if !goes {
-        return heap;
+    match news {
+        News::Silent => Pushed {
+            disseminator,
+            full: false,
+        },
+        News::Emits { kind, event } => disseminator.push(kind, Gossip { event }),
     }
-    let pushed = disseminate::push(heap, said);
-    let after = pushed.heap;
-    after
 }
 
 // The events so far.
@@ -130,26 +116,28 @@ pub struct Report {
     pub count: usize,
 }
 
-// An event, if there is one, stands behind the others.
-fn note(report: Report, said: Gossip, told: bool) -> Report
+// News stands behind the other events.
+fn note(report: Report, news: News) -> Report
     requires { ⌜ report .count < 65 ⌝ }
-    ensures { λ r. ⌜ r ≡ noted report said told ⌝ }
+    ensures { λ r. ⌜ r ≡ noted report (toNews news) ⌝ }
 {
-    if !told {
-        return report;
-    }
-    let at = report.count;
-    let mut events = report.events;
-    events[at] = said;
-    Report {
-        events,
-        count: at + 1,
+    match news {
+        News::Silent => report,
+        News::Emits { kind: _, event } => {
+            let at = report.count;
+            let mut events = report.events;
+            events[at] = Gossip { event };
+            Report {
+                events,
+                count: at + 1,
+            }
+        },
     }
 }
 
 // A rule was refused.
 fn refused(node: Node, refusal: Refusal) -> Heard
-    ensures { λ r. ⌜ r .drew ≡ Drew.Refused refusal ⌝ }
+    ensures { λ r. ⌜ r ≡ refusedHeard node refusal ⌝ }
 {
     Heard {
         node,
@@ -159,11 +147,13 @@ fn refused(node: Node, refusal: Refusal) -> Heard
     }
 }
 
-// The records in their order and then the sender: each rule is decided, and then its event pushed and noted.
-pub fn hear(mut node: Node, lent: Lent, draws: &[u64]) -> Heard
-    requires { ⌜ Ready node × (length (lent .rows) ≡ 64) × (lent .given ≤ 64) × (every (validGossip ipv4) (map toGossip (take (lent .given) (lent .rows))) ≡ true) × (calls.validOption ipv4 (toOptional (lent .sender)) ≡ true) ⌝ }
-    ensures { λ r. ⌜ HeardAs (now (draws .entry)) (M.andMore (handler.gossip ipv4 (map toGossip (take (lent .given) (lent .rows))) (viewNode node) (now (draws .entry))) (senderRule (lent .sender))) r ⌝ }
+// The records in their order and then the sender: each is judged, the list changes, and the news is pushed and reported.
+pub fn handle_gossip(mut node: Node, lent: Lent, draws: &[u64]) -> Heard
+    requires { ⌜ Ready node × Heeded (lent .rows) (lent .given) × (calls.validOption here (toOptional (lent .sender)) ≡ true) ⌝ }
+    ensures { λ r. ⌜ r ≡ heardOf node (now (draws .entry)) (M.andMore (handler.gossip here (recordsOf (lent .rows) (lent .given)) (viewNode node) (now (draws .entry))) (senderRule (toOptional (lent .sender)))) ⌝ }
 {
+    let mut members = node.members;
+    let mut disseminator = node.disseminator;
     let mut report = Report {
         events: no_events(),
         count: 0,
@@ -171,23 +161,27 @@ pub fn hear(mut node: Node, lent: Lent, draws: &[u64]) -> Heard
     let mut used = 0;
     let mut i = 0;
     while i <= lent.given {
-        let ruled = turn(node.members, node.own, node.deceased, lent, i, draws, used);
-        let told = ruled.told;
-        let decided = ruled.drew;
-        let drew = with_rooms(decided, told, node.alive.len, node.deceased.len);
+        let verdict = verdict_at(members, node.own, disseminator.deceased, lent, i);
+        let kept = rules::list_after(members, verdict, draws, used);
+        let drew = kept.drew;
         match drew {
             Drew::Used(more) => used += more,
             Drew::Refused(refusal) => {
                 return refused(node, refusal);
             }
         }
-        let members = ruled.members;
-        node.members = members;
-        node.alive = emit(node.alive, ruled.said, to_living(told));
-        node.deceased = emit(node.deceased, ruled.said, to_dead(told));
-        report = note(report, ruled.said, is_told(told));
+        let news = rules::news_of(verdict, node.own);
+        let pushed = tell(disseminator, news);
+        if pushed.full {
+            return refused(node, Refusal::HeapFull);
+        }
+        members = kept.members;
+        disseminator = pushed.disseminator;
+        report = note(report, news);
         i += 1;
     }
+    node.members = members;
+    node.disseminator = disseminator;
     let events = report.events;
     Heard {
         node,

@@ -1,37 +1,35 @@
 // The handler: what a message does to a node, by value.
 pub mod gossip;
-pub mod rules;
 pub mod tests;
 
 use address::Address;
 use gossip::Heard;
 use gossip::Lent;
+use model::Drew;
 use model::Refusal;
 use model::Reply;
 use model::State;
 use node::Answer;
 use node::Letter;
 use node::Node;
-use order::Drew;
 use types::Action;
 use types::Event;
 use types::Gossip;
 use types::Optional;
 ghost use mathlib.Core.Path.{_≡_};
 ghost use mathlib.Core.Bool.{true};
-ghost use mathlib.Core.List.{map};
 ghost use Prim.Native.Nat.{_≤_};
 ghost use lib.ListN.{length, take};
-ghost use Rattle.model.specs.IPv4.{ipv4};
-ghost use Rattle.model.specs.Rows.{every, padTo};
+ghost use Rattle.address.specs.Here.{here};
+ghost use Rattle.model.specs.Rows.{padTo};
 ghost use Rattle.model.specs.Words as W;
-ghost use Rattle.model.specs.Sound.{validGossip};
 ghost use Rattle.model.specs.Calls as calls;
 ghost use Rattle.model.specs.Handler as handler;
-ghost use Rattle.types.specs.Views.{toGossip, toOptional, toAction, noGossip};
+ghost use Rattle.types.specs.Views.{toOptional, toAction, noGossip};
 ghost use Rattle.node.specs.Views.{viewNode, packNode, storedView};
 ghost use Rattle.node.specs.Rows.{Ready};
-ghost use Rattle.message.specs.Answers.{noRows, oneLetter, refusedReceived, answeredOf, settledOf, forwardedOf, acknowledgedOf, receivedOf, lentRows};
+ghost use Rattle.message.specs.Answers.{noRows, oneLetter, refusedReceived, answeredOf, settledOf, forwardedOf, acknowledgedOf, receivedOf, handledOf, lentRows};
+ghost use Rattle.message.specs.Views.{Heeded};
 
 // What a message call gives: the answer, the gossip of its message, and the events to report.
 pub struct Received {
@@ -117,7 +115,7 @@ fn answer(heard: Heard, used: usize, target: Address, action: Action) -> Receive
 // A listed sender of an Ack becomes Alive at its own number.
 fn acked(node: Node, from: Address) -> Node
     requires { ⌜ Ready node ⌝ }
-    ensures { λ r. ⌜ r ≡ packNode (handler.acked ipv4 from (viewNode node)) ⌝ }
+    ensures { λ r. ⌜ r ≡ packNode (handler.acked here from (viewNode node)) ⌝ }
 {
     let members = node.members;
     if !members.lists(from) {
@@ -184,7 +182,7 @@ fn forward_ack(
 
 // To requested_by if present, else to the sender.
 fn ack_target(from: Address, requested_by: Optional) -> Address
-    ensures { λ r. ⌜ r ≡ handler.ackTarget ipv4 from (toOptional «requested_by») ⌝ }
+    ensures { λ r. ⌜ r ≡ handler.ackTarget here from (toOptional «requested_by») ⌝ }
 {
     match requested_by {
         Optional::Absent => from,
@@ -201,15 +199,15 @@ fn handle_ping(
     given: usize,
     draws: &[u64],
 ) -> Received
-    requires { ⌜ Ready node × (length rows ≡ 64) × (given ≤ 64) × (every (validGossip ipv4) (map toGossip (take given rows)) ≡ true) × (ipv4 .valid from ≡ true) ⌝ }
-    ensures { λ r. ⌜ r ≡ receivedOf (calls.kept ipv4 (storedView node) (now (draws .entry)) (handler.handle ipv4 (W.Ping from (toOptional «requested_by»)) (map toGossip (take given rows)) (viewNode node) (now (draws .entry)))) ⌝ }
+    requires { ⌜ Ready node × Heeded rows given × (here .valid from ≡ true) ⌝ }
+    ensures { λ r. ⌜ r ≡ handledOf node (W.Ping from (toOptional «requested_by»)) rows given (now (draws .entry)) ⌝ }
 {
     let lent = Lent {
         rows,
         given,
         sender: Optional::Given(from),
     };
-    let heard = gossip::hear(node, lent, draws);
+    let heard = gossip::handle_gossip(node, lent, draws);
     let drew = heard.drew;
     match drew {
         Drew::Used(used) => {
@@ -229,15 +227,15 @@ fn handle_ping_req(
     given: usize,
     draws: &[u64],
 ) -> Received
-    requires { ⌜ Ready node × (length rows ≡ 64) × (given ≤ 64) × (every (validGossip ipv4) (map toGossip (take given rows)) ≡ true) ⌝ }
-    ensures { λ r. ⌜ r ≡ receivedOf (calls.kept ipv4 (storedView node) (now (draws .entry)) (handler.handle ipv4 (W.PingReq from suspect) (map toGossip (take given rows)) (viewNode node) (now (draws .entry)))) ⌝ }
+    requires { ⌜ Ready node × Heeded rows given ⌝ }
+    ensures { λ r. ⌜ r ≡ handledOf node (W.PingReq from suspect) rows given (now (draws .entry)) ⌝ }
 {
     let lent = Lent {
         rows,
         given,
         sender: Optional::Absent,
     };
-    let heard = gossip::hear(node, lent, draws);
+    let heard = gossip::handle_gossip(node, lent, draws);
     let drew = heard.drew;
     match drew {
         Drew::Used(used) => {
@@ -275,15 +273,15 @@ fn handle_ack(
     given: usize,
     draws: &[u64],
 ) -> Received
-    requires { ⌜ Ready node × (length rows ≡ 64) × (given ≤ 64) × (every (validGossip ipv4) (map toGossip (take given rows)) ≡ true) ⌝ }
-    ensures { λ r. ⌜ r ≡ receivedOf (calls.kept ipv4 (storedView node) (now (draws .entry)) (handler.handle ipv4 (W.Ack from (toOptional «forward_to»)) (map toGossip (take given rows)) (viewNode node) (now (draws .entry)))) ⌝ }
+    requires { ⌜ Ready node × Heeded rows given ⌝ }
+    ensures { λ r. ⌜ r ≡ handledOf node (W.Ack from (toOptional «forward_to»)) rows given (now (draws .entry)) ⌝ }
 {
     let lent = Lent {
         rows,
         given,
         sender: Optional::Absent,
     };
-    let heard = gossip::hear(node, lent, draws);
+    let heard = gossip::handle_gossip(node, lent, draws);
     let drew = heard.drew;
     match drew {
         Drew::Used(used) => acknowledge(heard, used, from, forward_to, rows, given),
@@ -299,8 +297,8 @@ fn dispatch_action(
     given: usize,
     draws: &[u64],
 ) -> Received
-    requires { ⌜ Ready node × (given ≤ 64) × (every (validGossip ipv4) (map toGossip (take given rows)) ≡ true) × (calls.validAction ipv4 (toAction action) ≡ true) × (length rows ≡ 64) ⌝ }
-    ensures { λ r. ⌜ r ≡ receivedOf (calls.kept ipv4 (storedView node) (now (draws .entry)) (handler.handle ipv4 (toAction action) (map toGossip (take given rows)) (viewNode node) (now (draws .entry)))) ⌝ }
+    requires { ⌜ Ready node × Heeded rows given × (calls.validAction here (toAction action) ≡ true) ⌝ }
+    ensures { λ r. ⌜ r ≡ handledOf node (toAction action) rows given (now (draws .entry)) ⌝ }
 {
     match action {
         Action::Ping { from, requested_by } => {
@@ -328,7 +326,7 @@ pub fn receive(
     gossip_room: usize,
     event_room: usize,
 ) -> Received
-    ensures { λ r. ⌜ (r ≡ receivedOf (calls.message ipv4 (storedView node) (toAction action) (lentRows rows given) (now (draws .entry)) (record { gossip = «gossip_room»; events = «event_room» }))) × (r .written ≤ «gossip_room») × (r .written ≤ 64) × (r .reported ≤ «event_room») × (r .reported ≤ 65) ⌝ }
+    ensures { λ r. ⌜ (r ≡ receivedOf (calls.message here (storedView node) (toAction action) (lentRows rows given) (now (draws .entry)) (record { gossip = «gossip_room»; events = «event_room» }))) × (r .written ≤ «gossip_room») × (r .written ≤ 64) × (r .reported ≤ «event_room») × (r .reported ≤ 65) ⌝ }
 {
     node::tests::has_rows(node);
     has_places(rows);

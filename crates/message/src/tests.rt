@@ -6,14 +6,14 @@ ghost use mathlib.Core.Path.{_≡_};
 ghost use mathlib.Core.List.{map};
 ghost use Prim.Native.Nat.{_≤_};
 ghost use lib.ListN.{take};
-ghost use Rattle.model.specs.IPv4.{ipv4};
+ghost use Rattle.address.specs.Here.{here};
 ghost use Rattle.model.specs.Rows.{every};
 ghost use Rattle.model.specs.Sound.{validGossip};
 ghost use Rattle.model.specs.Calls as calls;
 ghost use Rattle.types.specs.Views.{toGossip, toAction, toOptional};
 
 fn valid_optional(o: Optional) -> bool
-    ensures { λ r. ⌜ r ≡ calls.validOption ipv4 (toOptional o) ⌝ }
+    ensures { λ r. ⌜ r ≡ calls.validOption here (toOptional o) ⌝ }
 {
     match o {
         Optional::Absent => true,
@@ -22,7 +22,7 @@ fn valid_optional(o: Optional) -> bool
 }
 
 pub fn valid_action(action: Action) -> bool
-    ensures { λ r. ⌜ r ≡ calls.validAction ipv4 (toAction action) ⌝ }
+    ensures { λ r. ⌜ r ≡ calls.validAction here (toAction action) ⌝ }
 {
     match action {
         Action::Ping { from, requested_by } => {
@@ -48,7 +48,7 @@ pub fn valid_action(action: Action) -> bool
 
 pub fn valid_rows(rows: [Gossip; 64], given: usize) -> bool
     requires { ⌜ given ≤ 64 ⌝ }
-    ensures { λ r. ⌜ r ≡ every (validGossip ipv4) (map toGossip (take given rows)) ⌝ }
+    ensures { λ r. ⌜ r ≡ every (validGossip here) (map toGossip (take given rows)) ⌝ }
 {
     let mut i = 0;
     while i < given {

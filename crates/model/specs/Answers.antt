@@ -6,7 +6,7 @@ use Prim.Native.Nat.{ℕ}
 use Rattle.model.specs.declared.Refusal.{Refusal}
 use Rattle.model.specs.declared.Refusal.the-variants.{Setting, Unsound, ShortRow, ManyRecords, AddressRange, NumberEnd, ListFull, DrawsShort, HeapFull, TimersFull}
 
--- 01's table: the number of each refusal
+-- the scope's table: the number of each refusal
 abbrev pub numberOf : Refusal → ℕ
 numberOf Setting = 1
 numberOf Unsound = 2

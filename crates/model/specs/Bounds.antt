@@ -1,6 +1,6 @@
 -- "Numbers that bound it."
 -- Assumes nothing.
-use Prim.Native.Nat.{ℕ, _+_, _-_, _*_, _^_}
+use Prim.Native.Nat.{ℕ, _-_, _^_}
 
 -- "The list has at most 64 listed addresses."
 abbrev pub list-places : ℕ

@@ -1,17 +1,17 @@
--- The calls: creation, adding a peer, the message, the detector step and the timer call, with their refusals in 01's order.
+-- The calls: creation, adding a peer, the message, the detector step and the timer call, with their refusals in the scope's order.
 -- Assumes nothing.
 use mathlib.Core.Bool.{Bool, true, false, _&&_, _||_, not}
 use mathlib.Core.List.{List, [], _∷_, _++_}
 use mathlib.Core.Option.{Option, none, some}
-use Prim.Native.Nat.{ℕ, _+_, _-_}
+use Prim.Native.Nat.{ℕ, _-_}
 use lib.ListN.{length, drop}
-use lib.Dec.{ltb, leb}
+use lib.Dec.{ltb}
 use Rattle.model.specs.declared.Refusal.{Refusal}
-use Rattle.model.specs.declared.Refusal.the-variants.{Setting, Unsound, ShortRow, ManyRecords, AddressRange, ListFull, DrawsShort}
+use Rattle.model.specs.declared.Refusal.the-variants.{Setting, Unsound, ShortRow, ManyRecords, AddressRange}
 use Rattle.model.specs.declared.Reply.{Reply}
 use Rattle.model.specs.declared.Reply.the-variants.{Done, Already, NotDue, Refused}
 use Rattle.model.specs.declared.Settings.{Settings}
-use Rattle.model.specs.Rows.{pick, every}
+use Rattle.model.specs.Rows.{every}
 use Rattle.model.specs.Bounds.{message-records, Room, message-room, step-room, timer-room}
 use Rattle.model.specs.Answers.{Answer, done, refused, andThen, numberOf}
 use Rattle.model.specs.Words.{Address, Gossip, Action, Ping, PingReq, Ack, Message, Wait, WaitState, SendingPing, WaitingForPingAck, SendingPingReq, WaitingForPingReqAck, Declaring}

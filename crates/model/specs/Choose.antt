@@ -9,8 +9,7 @@ use Rattle.model.specs.Rows.{pick, isEmpty}
 use Rattle.model.specs.Bounds.{message-records}
 use Rattle.model.specs.Words.{Address, Event, Nothing, Joined, Recovered, Suspected, Deceased, Gossip, Entry, unused, sendsOf, sameGossip}
 use Rattle.model.specs.Size.{sizeOf}
-use Rattle.model.specs.Heap.{push, sinkTop, removeTop}
-use Rattle.model.specs.Limit.{limitOf}
+use Rattle.model.specs.Heap.{sinkTop, removeTop}
 
 -- what bounds one choosing: both shares, the size, and the limit of sends
 pub record Terms : Type 0 where

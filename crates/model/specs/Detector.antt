@@ -3,20 +3,19 @@
 use mathlib.Core.Bool.{Bool, true, false}
 use mathlib.Core.List.{List, [], _∷_, _++_}
 use mathlib.Core.Option.{Option, none, some}
-use Prim.Native.Nat.{ℕ, zero, suc, _+_, _-_, _%_}
+use Prim.Native.Nat.{ℕ, suc, _+_, _-_, _%_}
 use lib.ListN.{length, getD}
 use lib.Dec.{leb}
 use Rattle.model.specs.declared.Settings.{Settings}
-use Rattle.model.specs.declared.State.{State}
+use Rattle.model.specs.declared.Kind.the-variants as kind
 use Rattle.model.specs.declared.State.the-variants as state
 use Rattle.model.specs.declared.Refusal.the-variants.{TimersFull}
 use Rattle.model.specs.Rows.{pick, removeAt}
 use Rattle.model.specs.Bounds.{ticks, timer-places}
 use Rattle.model.specs.Answers.{Answer, done, refused, andThen, when}
-use Rattle.model.specs.Words.{Address, isAlive, Suspected, Deceased, Gossip, Action, Ping, PingReq, Message, Timer, Wait, WaitState, SendingPing, WaitingForPingAck, SendingPingReq, WaitingForPingReqAck, Declaring, noTimer}
+use Rattle.model.specs.Words.{Address, isAlive, Suspected, Deceased, Gossip, Ping, PingReq, Message, Timer, Wait, WaitState, SendingPing, WaitingForPingAck, SendingPingReq, WaitingForPingReqAck, Declaring, noTimer}
 use Rattle.model.specs.Members as list
-use Rattle.model.specs.Node.{Node, Out, Effect, Spread, withMembers, withTimers, quiet, emitAlive, emitDeceased, lists, numbered, stateOf, change, leave, spread}
-use Rattle.model.specs.Handler.{says}
+use Rattle.model.specs.Node.{Node, Out, Effect, withMembers, withTimers, emit, lists, numbered, stateOf, change, leave, spread}
 
 -- "A wait is over when now less start, modulo 2^32, is at least the wait."
 unfoldable pub isOver : ℕ → ℕ → ℕ → Bool
@@ -90,7 +89,7 @@ module _ {A : Type 0} (address : Address A) where
 
   -- "update to Suspected at the remembered number, emit even if absent"
   unfoldable pub suspect : A → ℕ → Node A → List ℕ → Answer (Out A)
-  suspect a n s ds = emitAlive address (says address Suspected s a n) (change address a state.Suspected n s) ds
+  suspect a n s ds = emit address kind.Alive (record { event = Suspected (s .own) a n }) (change address a state.Suspected n s) ds
 
   -- "choose gossip for each, wait for PingReqAck": after the suspicion o, with the group p
   unfoldable pub asked : A → ℕ → ℕ → Out A → list.Picked A → Stepped A
@@ -133,7 +132,7 @@ module _ {A : Type 0} (address : Address A) where
   -- "its address is removed if listed, Deceased emitted at its number, its place reused"
   unfoldable pub ended : Timer A → Node A → List ℕ → Answer (Out A)
   ended t s ds =
-      emitDeceased address (says address Deceased s (t .addr) (t .number)) (pick (lists address (t .addr) s) (leave address (t .addr) s) s) ds
+      emit address kind.Deceased (record { event = Deceased (s .own) (t .addr) (t .number) }) (pick (lists address (t .addr) s) (leave address (t .addr) s) s) ds
 
   unfoldable pub endAt : ℕ → Node A → List ℕ → Answer (Out A)
   endAt i s ds = ended (getD (s .timers) i (noTimer address)) (withTimers s (removeAt (s .timers) i)) ds

@@ -1,80 +1,132 @@
--- "Handler": what a message does.
+-- "Handler": what a message does. An event is judged by the list, the own address and D; then the verdict is carried out.
 -- Assumes nothing.
-use mathlib.Core.Bool.{Bool, true, false, _&&_}
-use mathlib.Core.List.{List, [], _∷_, _++_}
+use mathlib.Core.Bool.{Bool, _&&_, not}
+use mathlib.Core.List.{List, [], _∷_}
 use mathlib.Core.Option.{Option, none, some}
-use Prim.Native.Nat.{ℕ, _+_, max}
-use lib.Dec.{ltb, leb}
+use Prim.Native.Nat.{ℕ, max}
+use lib.Dec.{eqb, ltb, leb}
 use Rattle.model.specs.declared.State.{State}
 use Rattle.model.specs.declared.State.the-variants as state
+use Rattle.model.specs.declared.Kind.{Kind}
+use Rattle.model.specs.declared.Kind.the-variants as kind
+use Rattle.model.specs.declared.Refusal.the-variants.{NumberEnd}
 use Rattle.model.specs.Rows.{pick}
-use Rattle.model.specs.Answers.{Answer, done, refused, andThen, when}
-use Rattle.model.specs.Words.{Address, isAlive, Event, Nothing, Joined, Recovered, Suspected, Deceased, Gossip, Action, Ping, PingReq, Ack, Message}
+use Rattle.model.specs.Answers.{Answer, done, refused, andThen}
+use Rattle.model.specs.Words.{Address, isAlive, Member, Event, Nothing, Joined, Recovered, Suspected, Deceased, Gossip, Action, Ping, PingReq, Ack, partsOf}
 use Rattle.model.specs.Members as list
-use Rattle.model.specs.Node.{Node, Out, Effect, withMembers, quiet, plusOne, deathPlusOne, andMore, emitAlive, emitDeceased, lists, numbered, stateOf, heldDeath, change, leave, spread}
+use Rattle.model.specs.Node.{Node, Out, Effect, withMembers, quiet, plusOne, deathPlusOne, andMore, emit, lists, numbered, heldDeath, change, spread}
+
+-- What an event comes to. Nothing happens: there is none, the address is unknown, its number is equal to the held one of a peer that isn't Alive, or it is not
+-- high enough. Or a number plus one is needed and there is none. Or the own address refutes a suspicion; an address comes in; a listed one is raised, recovers, is suspected or dies
+pub data Verdict (A : Type 0) : Type 0 where
+  Skip Unknown Equal Low AtEnd : Verdict A
+  Refute : ℕ → Verdict A
+  Enter Raise Recover Suspect Bury : A → ℕ → Verdict A
+
+-- an event that is emitted, and the heap that it goes to
+pub data News (A : Type 0) : Type 0 where
+  Silent : News A
+  Emits : Kind → Event A → News A
+
+-- "if Alive and ≥, or not Alive and >"
+unfoldable pub believed : State → ℕ → ℕ → Bool
+believed st held n = pick (isAlive st) (leb held n) (ltb held n)
+
+-- where a number plus one is needed
+abbrev pub orEnd : {A : Type 0} → Option ℕ → (ℕ → Verdict A) → Verdict A
+orEnd none k = AtEnd
+orEnd (some n) k = k n
 
 module _ {A : Type 0} (address : Address A) where
-  -- "Emitted events name this node as from."
-  abbrev pub says : (A → A → ℕ → Event A) → Node A → A → ℕ → Gossip A
-  says kind s a n = record { event = kind (s .own) a n }
+  -- "Joined: number = max(D + 1 or 0, joined). Listed: if greater, raise it and keep the state; else nothing. Absent: add."
+  unfoldable pub joinedAt : A → ℕ → List (Member A) → Verdict A
+  joinedAt a n t =
+      pick (list.listed (address .same) a t)
+      (pick (ltb (list.held (address .same) a t) n) (Raise a n) Low)
+      (Enter a n)
 
-  -- an address that is not listed comes in at n, and Joined is emitted
-  unfoldable pub enter : A → ℕ → Node A → List ℕ → Answer (Out A)
-  enter a n s ds =
-      andThen (list.add (address .same) a n (s .members) ds) λ m rest.
-      emitAlive address (says Joined s a n) (withMembers s m) rest
-
-  -- "Joined: number = max(D + 1 or 0, joined). Listed: if greater, raise it and keep the state; else nothing. Absent: add. A change emits Joined."
-  unfoldable pub joinedAt : A → ℕ → Node A → List ℕ → Answer (Out A)
-  joinedAt a n s ds =
-      when (lists address a s)
-      (when (ltb (numbered address a s) n)
-      (emitAlive address (says Joined s a n) (change address a (stateOf address a s) n s) ds)
-      (quiet s ds))
-      (enter a n s ds)
-
-  unfoldable pub joined : A → ℕ → Node A → List ℕ → Answer (Out A)
-  joined a n s ds = deathPlusOne (heldDeath address a s) λ least. joinedAt a (max least n) s ds
+  unfoldable pub joined : Option ℕ → A → ℕ → List (Member A) → Verdict A
+  joined d a n t = orEnd (deathPlusOne d) λ least. joinedAt a (max least n) t
 
   -- "Recovered: listed and greater: Alive, emit."
-  unfoldable pub recovered : A → ℕ → Node A → List ℕ → Answer (Out A)
-  recovered a n s ds =
-      when (lists address a s && ltb (numbered address a s) n)
-      (emitAlive address (says Recovered s a n) (change address a state.Alive n s) ds)
-      (quiet s ds)
-
-  -- "if Alive and ≥, or not Alive and >"
-  unfoldable pub believed : State → ℕ → ℕ → Bool
-  believed st held n = pick (isAlive st) (leb held n) (ltb held n)
+  unfoldable pub recovered : A → ℕ → List (Member A) → Verdict A
+  recovered a n t =
+      pick (list.listed (address .same) a t)
+      (pick (ltb (list.held (address .same) a t) n) (Recover a n) Low)
+      Unknown
 
   -- "Other, listed: if Alive and ≥, or not Alive and >, set Suspected, emit."
-  unfoldable pub suspectedOther : A → ℕ → Node A → List ℕ → Answer (Out A)
-  suspectedOther a n s ds =
-      when (lists address a s && believed (stateOf address a s) (numbered address a s) n)
-      (emitAlive address (says Suspected s a n) (change address a state.Suspected n s) ds)
-      (quiet s ds)
+  unfoldable pub suspectedOther : A → ℕ → List (Member A) → Verdict A
+  suspectedOther a n t =
+      let st = list.heldState (address .same) a t in
+      let held = list.held (address .same) a t in
+      pick (list.listed (address .same) a t)
+      (pick (believed st held n) (Suspect a n) (pick (not (isAlive st) && eqb n held) Equal Low))
+      Unknown
 
   -- "Suspected, own address: emit Recovered with number + 1; own record unmoved."
-  unfoldable pub suspected : A → ℕ → Node A → List ℕ → Answer (Out A)
-  suspected a n s ds =
-      when (address .same (s .own) a)
-      (plusOne n λ next. emitAlive address (says Recovered s (s .own) next) s ds)
-      (suspectedOther a n s ds)
+  unfoldable pub suspected : A → A → ℕ → List (Member A) → Verdict A
+  suspected own a n t = pick (address .same own a) (orEnd (plusOne n) Refute) (suspectedOther a n t)
 
   -- "Deceased: listed and ≥: remove, emit to the deceased heap. The own address is no exception."
-  unfoldable pub deceased : A → ℕ → Node A → List ℕ → Answer (Out A)
-  deceased a n s ds =
-      when (lists address a s && leb (numbered address a s) n)
-      (emitDeceased address (says Deceased s a n) (leave address a s) ds)
-      (quiet s ds)
+  unfoldable pub deceased : A → ℕ → List (Member A) → Verdict A
+  deceased a n t =
+      pick (list.listed (address .same) a t)
+      (pick (leb (list.held (address .same) a t) n) (Bury a n) Low)
+      Unknown
 
-  -- "A gossip record holds one of four events or none; none is skipped."
-  abbrev pub item : Event A → Node A → List ℕ → Answer (Out A)
-  item Nothing s ds = quiet s ds
-  item (Joined f a n) s ds = joined a n s ds
-  item (Recovered f a n) s ds = recovered a n s ds
-  item (Suspected f a n) s ds = suspected a n s ds
-  item (Deceased f a n) s ds = deceased a n s ds
+  -- "A gossip record holds one of four events or none; none is skipped.": by the own address, the list, D of the event's address, and the event
+  abbrev pub judge : A → List (Member A) → Option ℕ → Event A → Verdict A
+  judge own t d Nothing = Skip
+  judge own t d (Joined f a n) = joined d a n t
+  judge own t d (Recovered f a n) = recovered a n t
+  judge own t d (Suspected f a n) = suspected own a n t
+  judge own t d (Deceased f a n) = deceased a n t
+
+  -- "then an unlisted sender is added with D + 1 or 0"
+  unfoldable pub judgeSender : List (Member A) → Option ℕ → A → Verdict A
+  judgeSender t d a = pick (list.listed (address .same) a t) Skip (orEnd (deathPlusOne d) (Enter a))
+
+  -- the list after a verdict: refusals 6, 7 and 8
+  unfoldable pub listAfter : Verdict A → list.Members A → List ℕ → Answer (list.Members A)
+  listAfter Skip m ds = done m ds
+  listAfter Unknown m ds = done m ds
+  listAfter Equal m ds = done m ds
+  listAfter Low m ds = done m ds
+  listAfter AtEnd m ds = refused NumberEnd
+  listAfter (Refute n) m ds = done m ds
+  listAfter (Enter a n) m ds = list.add (address .same) a n m ds
+  listAfter (Raise a n) m ds = done (list.update (address .same) (record { addr = a; state = list.heldState (address .same) a (m .table); number = n }) m) ds
+  listAfter (Recover a n) m ds = done (list.update (address .same) (record { addr = a; state = state.Alive; number = n }) m) ds
+  listAfter (Suspect a n) m ds = done (list.update (address .same) (record { addr = a; state = state.Suspected; number = n }) m) ds
+  listAfter (Bury a n) m ds = done (list.remove (address .same) a m) ds
+
+  -- "A change emits Joined.", "Emitted events name this node as from."
+  unfoldable pub newsOf : Verdict A → A → News A
+  newsOf Skip own = Silent
+  newsOf Unknown own = Silent
+  newsOf Equal own = Silent
+  newsOf Low own = Silent
+  newsOf AtEnd own = Silent
+  newsOf (Refute n) own = Emits kind.Alive (Recovered own own n)
+  newsOf (Enter a n) own = Emits kind.Alive (Joined own a n)
+  newsOf (Raise a n) own = Emits kind.Alive (Joined own a n)
+  newsOf (Recover a n) own = Emits kind.Alive (Recovered own a n)
+  newsOf (Suspect a n) own = Emits kind.Alive (Suspected own a n)
+  newsOf (Bury a n) own = Emits kind.Deceased (Deceased own a n)
+
+  -- refusal 9
+  abbrev pub tell : News A → Node A → List ℕ → Answer (Out A)
+  tell Silent s ds = quiet s ds
+  tell (Emits k e) s ds = emit address k (record { event = e }) s ds
+
+  -- a verdict is carried out: "Within one gossip item or ping admission: 6, 7, 8, 9."
+  unfoldable pub act : Verdict A → Node A → List ℕ → Answer (Out A)
+  act v s ds = andThen (listAfter v (s .members) ds) λ m rest. tell (newsOf v (s .own)) (withMembers s m) rest
+
+  -- one gossip record
+  unfoldable pub item : Event A → Node A → List ℕ → Answer (Out A)
+  item e s ds = act (judge (s .own) (s .members .table) (heldDeath address (partsOf address e .subject) s) e) s ds
 
   -- the records in their order
   abbrev pub gossip : List (Gossip A) → Node A → List ℕ → Answer (Out A)
@@ -83,7 +135,7 @@ module _ {A : Type 0} (address : Address A) where
 
   -- "then an unlisted sender is added with D + 1 or 0, emitting Joined"
   unfoldable pub admit : A → Node A → List ℕ → Answer (Out A)
-  admit a s ds = when (lists address a s) (quiet s ds) (deathPlusOne (heldDeath address a s) λ n. enter a n s ds)
+  admit a s ds = act (judgeSender (s .members .table) (heldDeath address a s) a) s ds
 
   -- "a listed sender becomes Alive at its own number"
   unfoldable pub acked : A → Node A → Node A

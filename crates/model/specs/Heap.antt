@@ -1,10 +1,9 @@
 -- "Heap. The standard library's BinaryHeap; fewer sends is greater." For any type of entry: `d` is what stands past the end, and `key`
 -- the entry's rank, its sends: fewer is nearer the top.
 -- Assumes nothing.
-use mathlib.Core.Path.{_≡_}
-use mathlib.Core.Bool.{Bool, true, false, _&&_}
+use mathlib.Core.Bool.{Bool, true, _&&_}
 use mathlib.Core.List.{List, [], _∷_, _++_}
-use Prim.Native.Nat.{ℕ, zero, suc, _+_, _-_, _*_, _/_, _≤_, _<_}
+use Prim.Native.Nat.{ℕ, zero, suc, _+_, _-_, _*_, _/_}
 use lib.Dec.{eqb, ltb, leb}
 use lib.ListN.{length, getD, set, take}
 use Rattle.model.specs.Rows.{pick, swap}
@@ -72,15 +71,11 @@ removeTop d key xs = bottom d key (take (length xs - 1) (set xs 0 (getD xs (leng
 abbrev pub rank : {A : Type 0} → A → (A → ℕ) → List A → ℕ → ℕ
 rank d key xs i = key (getD xs i d)
 
--- heap order of the first len places: none has fewer than the one above it
-unfoldable pub Ordered : (ℕ → ℕ) → ℕ → Type 0
-Ordered K len = (i : ℕ) → 0 < i → i < len → K (parent i) ≤ K i
-
 -- a test passes at every number below n
 unfoldable pub allBelow : (ℕ → Bool) → ℕ → Bool
 allBelow f zero = true
 allBelow f (suc n) = allBelow f n && f n
 
--- the same as `Ordered`, to be tested: place 0 is its own parent, and passes
+-- heap order of the first len places, as a test: none has fewer than the one above it; place 0 is its own parent, and passes
 abbrev pub inOrder : {A : Type 0} → A → (A → ℕ) → List A → ℕ → Bool
 inOrder d key xs len = allBelow (λ i. leb (rank d key xs (parent i)) (rank d key xs i)) len

@@ -1,11 +1,11 @@
--- Paper 01's rules, in its order: numbers, refusals, sizes, heap, choosing, list and order, handler, detector, soundness, calls.
+-- What must be believed, and nothing else: the scope's rules, for any type of address, in its order:
+-- numbers, refusals, sizes, heap, choosing, list and order, handler, detector, soundness, calls.
 pub mod Rows
 pub mod Bounds
 pub mod Answers
 pub mod Words
 pub mod Limit
 pub mod Size
-pub mod IPv4
 pub mod Heap
 pub mod Choose
 pub mod Members
@@ -14,37 +14,3 @@ pub mod Handler
 pub mod Detector
 pub mod Sound
 pub mod Calls
--- The laws that proofs cite.
-pub mod Bools
-pub mod After
-pub mod Counts
-pub mod Pad
-pub mod Whole
-pub mod Distinct
-pub mod Held
-pub mod Picking
-pub mod Good
-pub mod LimitLaws
-pub mod TextLaws
-pub mod SizeLaws
-pub mod HeapSwaps
-pub mod HeapSteps
-pub mod HeapOrder
-pub mod HeapKeeps
-pub mod HeapLaws
-pub mod HeapTests
-pub mod HeapFrames
-pub mod ChooseLaws
-pub mod Chosen
-pub mod Keeps
-pub mod KeepsCalls
-pub mod Places
-pub mod Draws
-pub mod Packing
-pub mod Closing
-pub mod Aside
-pub mod Padded
-pub mod Checks
-pub mod SoundList
-pub mod Picks
-pub mod ListLaws

@@ -7,12 +7,12 @@ use Prim.Native.Nat.{ℕ, zero, suc, _+_, _-_, _*_, _%_, min}
 use lib.ListN.{length, getD}
 use lib.Dec.{eqb, leb}
 use Rattle.model.specs.declared.State.{State}
-use Rattle.model.specs.declared.State.the-variants.{Alive, Pending, Suspected}
+use Rattle.model.specs.declared.State.the-variants.{Alive}
 use Rattle.model.specs.declared.Refusal.the-variants.{ListFull, DrawsShort}
 use Rattle.model.specs.Rows.{pick, insertAt, swap, has, erase}
 use Rattle.model.specs.Bounds.{list-places}
 use Rattle.model.specs.Answers.{Answer, done, refused, andThen, when, draw}
-use Rattle.model.specs.Words.{Address, Member}
+use Rattle.model.specs.Words.{Member}
 
 pub record Members (A : Type 0) : Type 0 where
   pub table : List (Member A)
@@ -41,11 +41,6 @@ module _ {A : Type 0} (blank : A) where
       (done (record { table = m .table; order = m .order; position = next }) ds)
 
 module _ {A : Type 0} (same : A → A → Bool) where
-  -- the record of a listed address
-  abbrev pub find : A → List (Member A) → Option (Member A)
-  find a [] = none
-  find a (m ∷ t) = pick (same a (m .addr)) (some m) (find a t)
-
   -- the table without the record of a
   abbrev pub strike : A → List (Member A) → List (Member A)
   strike a [] = []

@@ -1,30 +1,44 @@
--- A node: its settings, its own address, the list, both heaps and the timers. And what a rule leaves.
+-- A node: its settings, its own address, the list, the disseminator with its two heaps, and the timers. And what a rule leaves.
 -- Assumes nothing.
-use mathlib.Core.Bool.{Bool, true, false}
+use mathlib.Core.Bool.{Bool}
 use mathlib.Core.List.{List, [], _∷_, _++_}
 use mathlib.Core.Option.{Option, none, some}
-use Prim.Native.Nat.{ℕ, _+_, _-_}
+use Prim.Native.Nat.{ℕ, _+_}
 use lib.ListN.{length, take}
-use lib.Dec.{eqb, leb}
+use lib.Dec.{leb}
 use Rattle.model.specs.declared.State.{State}
 use Rattle.model.specs.declared.State.the-variants.{Alive}
 use Rattle.model.specs.declared.Settings.{Settings}
-use Rattle.model.specs.declared.Refusal.the-variants.{NumberEnd, HeapFull}
+use Rattle.model.specs.declared.Kind.{Kind}
+use Rattle.model.specs.declared.Kind.the-variants as kind
+use Rattle.model.specs.declared.Refusal.the-variants.{HeapFull}
 use Rattle.model.specs.Rows.{pick, padTo}
 use Rattle.model.specs.Bounds.{list-places, heap-places, timer-places, last-number}
 use Rattle.model.specs.Answers.{Answer, done, refused, andThen, when}
-use Rattle.model.specs.Words.{Address, Gossip, Entry, unused, sendsOf, Timer, Member, Message, Joined, Deceased, noMember, noTimer}
+use Rattle.model.specs.Words.{Address, Gossip, Entry, unused, sendsOf, Timer, Member, Message, noMember, noTimer}
 use Rattle.model.specs.Limit.{limitOf}
 use Rattle.model.specs.Heap.{push}
 use Rattle.model.specs.Choose.{choose, termsOf, entryOf, death}
 use Rattle.model.specs.Members as list
 
+-- what is to be spread: the heap of the living and the heap of deaths
+pub record Disseminator (A : Type 0) : Type 0 where
+  pub alive : List (Entry A)
+  pub deceased : List (Entry A)
+
+abbrev pub heapOf : {A : Type 0} → Kind → Disseminator A → List (Entry A)
+heapOf kind.Alive d = d .alive
+heapOf kind.Deceased d = d .deceased
+
+abbrev pub withHeap : {A : Type 0} → Kind → List (Entry A) → Disseminator A → Disseminator A
+withHeap kind.Alive h d = record { alive = h; deceased = d .deceased }
+withHeap kind.Deceased h d = record { alive = d .alive; deceased = h }
+
 pub record Node (A : Type 0) : Type 0 where
   pub settings : Settings
   pub own : A
   pub members : list.Members A
-  pub alive : List (Entry A)
-  pub deceased : List (Entry A)
+  pub disseminator : Disseminator A
   pub timers : List (Timer A)
 
 -- what a rule leaves: the node, and the events that it reported, each as the gossip record that holds it
@@ -43,27 +57,24 @@ pub record Spread (A : Type 0) : Type 0 where
   pub node : Node A
   pub gossip : List (Gossip A)
 
--- "a number plus one is needed and the number is 2^64 − 1": refusal 6
-unfoldable pub plusOne : {B : Type 0} → ℕ → (ℕ → Answer B) → Answer B
-plusOne n k = when (leb last-number n) (refused NumberEnd) (k (n + 1))
+-- "a number plus one", if there is one
+abbrev pub plusOne : ℕ → Option ℕ
+plusOne n = pick (leb last-number n) none (some (n + 1))
 
--- "D + 1 or 0"
-unfoldable pub deathPlusOne : {B : Type 0} → Option ℕ → (ℕ → Answer B) → Answer B
-deathPlusOne none k = k 0
-deathPlusOne (some d) k = plusOne d k
+-- "D + 1 or 0", if there is one
+abbrev pub deathPlusOne : Option ℕ → Option ℕ
+deathPlusOne none = some 0
+deathPlusOne (some d) = plusOne d
 
 module _ {A : Type 0} where
   abbrev pub withMembers : Node A → list.Members A → Node A
-  withMembers s m =
-      record { settings = s .settings; own = s .own; members = m; alive = s .alive; deceased = s .deceased; timers = s .timers }
+  withMembers s m = record { settings = s .settings; own = s .own; members = m; disseminator = s .disseminator; timers = s .timers }
 
-  abbrev pub withHeaps : Node A → List (Entry A) → List (Entry A) → Node A
-  withHeaps s alive deceased =
-      record { settings = s .settings; own = s .own; members = s .members; alive = alive; deceased = deceased; timers = s .timers }
+  abbrev pub withDisseminator : Node A → Disseminator A → Node A
+  withDisseminator s d = record { settings = s .settings; own = s .own; members = s .members; disseminator = d; timers = s .timers }
 
   abbrev pub withTimers : Node A → List (Timer A) → Node A
-  withTimers s timers =
-      record { settings = s .settings; own = s .own; members = s .members; alive = s .alive; deceased = s .deceased; timers = timers }
+  withTimers s timers = record { settings = s .settings; own = s .own; members = s .members; disseminator = s .disseminator; timers = timers }
 
   -- nothing is reported
   unfoldable pub quiet : Node A → List ℕ → Answer (Out A)
@@ -74,17 +85,16 @@ module _ {A : Type 0} where
   andMore x k = andThen x λ o rest. andThen (k (o .node) rest) λ p rest₂. done (record { node = p .node; said = o .said ++ p .said }) rest₂
 
 module _ {A : Type 0} (address : Address A) where
-  -- an event is about to be pushed: the heap with it, or refusal 9
-  unfoldable pub pushed : Gossip A → List (Entry A) → List ℕ → Answer (List (Entry A))
-  pushed g heap ds =
-      when (leb heap-places (length heap)) (refused HeapFull) (done (push unused sendsOf heap (entryOf address g)) ds)
+  -- "an event is to be pushed to a full heap": refusal 9; else the disseminator with it
+  unfoldable pub pushed : Kind → Gossip A → Disseminator A → List ℕ → Answer (Disseminator A)
+  pushed k g d ds =
+      when (leb heap-places (length (heapOf k d)))
+      (refused HeapFull)
+      (done (withHeap k (push unused sendsOf (heapOf k d) (entryOf address g)) d) ds)
 
   -- "an emitted event is pushed to its heap, then reported"
-  unfoldable pub emitAlive : Gossip A → Node A → List ℕ → Answer (Out A)
-  emitAlive g s ds = andThen (pushed g (s .alive) ds) λ h rest. done (record { node = withHeaps s h (s .deceased); said = g ∷ [] }) rest
-
-  unfoldable pub emitDeceased : Gossip A → Node A → List ℕ → Answer (Out A)
-  emitDeceased g s ds = andThen (pushed g (s .deceased) ds) λ h rest. done (record { node = withHeaps s (s .alive) h; said = g ∷ [] }) rest
+  unfoldable pub emit : Kind → Gossip A → Node A → List ℕ → Answer (Out A)
+  emit k g s ds = andThen (pushed k g (s .disseminator) ds) λ d rest. done (record { node = withDisseminator s d; said = g ∷ [] }) rest
 
   abbrev pub lists : A → Node A → Bool
   lists a s = list.listed (address .same) a (s .members .table)
@@ -97,7 +107,7 @@ module _ {A : Type 0} (address : Address A) where
 
   -- D of an address
   abbrev pub heldDeath : A → Node A → Option ℕ
-  heldDeath a s = death address a (s .deceased)
+  heldDeath a s = death address a (s .disseminator .deceased)
 
   -- the record of a listed address is replaced
   unfoldable pub change : A → State → ℕ → Node A → Node A
@@ -111,9 +121,9 @@ module _ {A : Type 0} (address : Address A) where
   spread s =
       let c = choose address
       (termsOf (s .settings .«max_selected») (s .settings .«max_size») (limitOf (length (s .members .table)) (s .settings .«send_constant»)))
-      (s .alive)
-      (s .deceased) in
-      record { node = withHeaps s (c .alive) (c .deceased); gossip = c .chosen }
+      (s .disseminator .alive)
+      (s .disseminator .deceased) in
+      record { node = withDisseminator s (record { alive = c .alive; deceased = c .deceased }); gossip = c .chosen }
 
 -- A node as it is kept: rows of a fixed number of places, and how many of them are used
 pub record Row (B : Type 0) : Type 0 where
@@ -144,8 +154,7 @@ loaded s =
       settings = s .settings;
       own = s .own;
       members = record { table = take (s .listed) (s .table); order = take (s .listed) (s .order); position = s .position };
-      alive = inUse (s .alive);
-      deceased = inUse (s .deceased);
+      disseminator = record { alive = inUse (s .alive); deceased = inUse (s .deceased) };
       timers = inUse (s .timers);
     }
 
@@ -159,8 +168,8 @@ stored address s =
       order = padTo list-places (address .blank) (s .members .order);
       listed = length (s .members .table);
       position = s .members .position;
-      alive = rowOf heap-places unused (s .alive);
-      deceased = rowOf heap-places unused (s .deceased);
+      alive = rowOf heap-places unused (s .disseminator .alive);
+      deceased = rowOf heap-places unused (s .disseminator .deceased);
       timers = rowOf timer-places (noTimer address) (s .timers);
     }
 
@@ -171,7 +180,6 @@ fresh settings own n =
       settings = settings;
       own = own;
       members = record { table = record { addr = own; state = Alive; number = n } ∷ []; order = own ∷ []; position = 0 };
-      alive = [];
-      deceased = [];
+      disseminator = record { alive = []; deceased = [] };
       timers = [];
     }

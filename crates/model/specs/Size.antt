@@ -1,7 +1,7 @@
 -- "Size of a gossip", over the lengths of its texts.
 -- Assumes nothing.
-use mathlib.Core.Bool.{Bool, true, false}
-use Prim.Native.Nat.{ℕ, zero, suc, _+_, _/_, _≤_}
+use mathlib.Core.Bool.{true, false}
+use Prim.Native.Nat.{ℕ, zero, suc, _+_, _/_}
 use lib.Dec.{eqb, ltb}
 use Rattle.model.specs.Rows.{pick}
 use Rattle.model.specs.Words.{Address, Event, Nothing, Joined, Recovered, Suspected, Deceased, Gossip}

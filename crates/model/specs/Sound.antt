@@ -1,14 +1,16 @@
--- "Sound": each clause of 01's paragraph, as a test that computes.
+-- "Sound": each clause of the scope's paragraph, as a test that computes.
 -- Assumes nothing.
-use mathlib.Core.Bool.{Bool, true, false, not, _&&_}
-use mathlib.Core.List.{List, [], _∷_, _++_}
-use Prim.Native.Nat.{ℕ, zero, suc, _+_}
-use lib.ListN.{length, take, drop}
+use mathlib.Core.Bool.{Bool, true, not, _&&_}
+use mathlib.Core.List.{List, [], _∷_}
+use Prim.Native.Nat.{ℕ}
+use lib.ListN.{take, drop}
 use lib.Dec.{eqb, ltb, leb}
 use Rattle.model.specs.declared.Settings.{Settings}
+use Rattle.model.specs.declared.Kind.{Kind}
+use Rattle.model.specs.declared.Kind.the-variants as kind
 use Rattle.model.specs.Rows.{pick, every, isEmpty, has, erase}
 use Rattle.model.specs.Bounds.{list-places, heap-places, timer-places, most-sends, wait-end, most-group, most-constant, most-selected, least-size, greatest-size}
-use Rattle.model.specs.Words.{Address, isAlive, Event, Nothing, Joined, Recovered, Deceased, Parts, partsOf, Gossip, Entry, unused, sendsOf, Member, Timer}
+use Rattle.model.specs.Words.{Address, isAlive, partsOf, Gossip, Entry, unused, sendsOf, Member, Timer}
 use Rattle.model.specs.Size.{sizeOf}
 use Rattle.model.specs.Heap.{inOrder}
 use Rattle.model.specs.Members.{addrs}
@@ -44,12 +46,9 @@ unfoldable pub positioned : ℕ → ℕ → Bool
 positioned p len = pick (eqb len 0) (eqb p 0) (ltb p len)
 
 -- which events a heap holds: 1 to 3 the alive heap, 4 the deceased heap
-pub data Kind : Type 0 where
-  AliveKind DeceasedKind : Kind
-
 abbrev pub ofKind : Kind → ℕ → Bool
-ofKind AliveKind k = leb 1 k && leb k 3
-ofKind DeceasedKind k = eqb k 4
+ofKind kind.Alive k = leb 1 k && leb k 3
+ofKind kind.Deceased k = eqb k 4
 
 module _ {A : Type 0} (address : Address A) where
   -- "addresses below 2^48", in a gossip record: one of no event holds none
@@ -107,6 +106,6 @@ module _ {A : Type 0} (address : Address A) where
       inRange (s .settings)
       && address .valid (s .own)
       && soundMembers (s .table) (s .order) (s .listed) (s .position)
-      && soundHeap AliveKind (s .alive)
-      && soundHeap DeceasedKind (s .deceased)
+      && soundHeap kind.Alive (s .alive)
+      && soundHeap kind.Deceased (s .deceased)
       && soundTimers (s .timers)

@@ -1,5 +1,6 @@
 // The words that the rules and the code share: whatever holds no address. The rules themselves stand in specs/.
 ghost use mathlib.Core.Path.{_≡_};
+ghost use mathlib.Core.Bool.{_&&_};
 ghost use Rattle.model.specs.Answers.{numberOf};
 
 // What a list says of a peer. Alive comes first: it is the state of an unused place.
@@ -7,6 +8,12 @@ pub enum State {
     Alive,
     Pending,
     Suspected,
+}
+
+// The two heaps of a node: what is known of the living, and the deaths.
+pub enum Kind {
+    Alive,
+    Deceased,
 }
 
 // The ten refusals, in the order of their numbers.
@@ -28,6 +35,12 @@ pub enum Reply {
     Done(usize),
     Already,
     NotDue,
+    Refused(Refusal),
+}
+
+// How a rule that reads draws ended: how many it used, or why it was refused.
+pub enum Drew {
+    Used(usize),
     Refused(Refusal),
 }
 
@@ -59,4 +72,11 @@ pub fn refusal_number(refusal: Refusal) -> u8
         Refusal::HeapFull => 9,
         Refusal::TimersFull => 10,
     }
+}
+
+// Two tests are passed. Joining them by a function leaves one way out, however many tests there are.
+pub fn both(a: bool, b: bool) -> bool
+    ensures { λ r. ⌜ r ≡ (a && b) ⌝ }
+{
+    if a { b } else { false }
 }

@@ -7,7 +7,7 @@ use Prim.Native.Nat.{ℕ}
 use Rattle.model.specs.declared.Settings.{Settings}
 use Rattle.model.specs.declared.Refusal.the-variants.{Setting, AddressRange}
 use Rattle.model.specs.declared.Reply.the-variants.{Done, Refused}
-use Rattle.model.specs.IPv4.{ipv4}
+use Rattle.address.specs.Here.{Addr, here}
 use Rattle.model.specs.Node as M
 use Rattle.model.specs.Sound.{inRange}
 use Rattle.model.specs.Calls.{Created, created, notCreated, create}
@@ -17,27 +17,27 @@ use Rattle.node.specs.Views.{packNode, nobody, plainAnswer, createdOf}
 use Rattle.node.specs.Rows.{unstored-pack}
 use Rattle.node.specs.Ends.{test-fails, test-passes}
 
-module _ (settings : Settings) (own number : ℕ) where
-  abbrev fresh : Created ℕ
-  fresh = created (M.stored ipv4 (M.fresh settings own number))
+module _ (settings : Settings) (own : Addr) (number : ℕ) where
+  abbrev fresh : Created Addr
+  fresh = created (M.stored here (M.fresh settings own number))
 
   abbrev first : Bool × Rattle.model.specs.declared.Refusal.Refusal
-  first = (not (ipv4 .valid own), AddressRange)
+  first = (not (here .valid own), AddressRange)
 
   abbrev second : Bool × Rattle.model.specs.declared.Refusal.Refusal
   second = (not (inRange settings), Setting)
 
-  pub create-address : (n : Node) → n ≡ packNode nobody → ipv4 .valid own ≡ false → plainAnswer (Refused AddressRange) n ≡ createdOf (create ipv4 settings own number)
+  pub create-address : (n : Node) → n ≡ packNode nobody → here .valid own ≡ false → plainAnswer (Refused AddressRange) n ≡ createdOf (create here settings own number)
   unfolding create createdOf
   create-address n e v = ap (plainAnswer (Refused AddressRange)) e ∙ sym (ap createdOf (test-fails first (second ∷ []) notCreated fresh (ap not v)))
 
-  pub create-setting : (n : Node) → n ≡ packNode nobody → ipv4 .valid own ≡ true → inRange settings ≡ false → plainAnswer (Refused Setting) n ≡ createdOf (create ipv4 settings own number)
+  pub create-setting : (n : Node) → n ≡ packNode nobody → here .valid own ≡ true → inRange settings ≡ false → plainAnswer (Refused Setting) n ≡ createdOf (create here settings own number)
   unfolding create createdOf
   create-setting n e v w =
       ap (plainAnswer (Refused Setting)) e
       ∙ sym (ap createdOf (test-passes first (second ∷ []) notCreated fresh (ap not v) ∙ test-fails second [] notCreated fresh (ap not w)))
 
-  pub create-kept : (n : Node) → n ≡ packNode (M.fresh settings own number) → ipv4 .valid own ≡ true → inRange settings ≡ true → plainAnswer (Done 0) n ≡ createdOf (create ipv4 settings own number)
+  pub create-kept : (n : Node) → n ≡ packNode (M.fresh settings own number) → here .valid own ≡ true → inRange settings ≡ true → plainAnswer (Done 0) n ≡ createdOf (create here settings own number)
   unfolding create createdOf
   create-kept n e v w =
       ap (plainAnswer (Done 0)) (e ∙ sym (unstored-pack (M.fresh settings own number)))

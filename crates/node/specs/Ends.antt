@@ -1,20 +1,18 @@
 -- How a call ends that tests first: each refusal, and what is left as it came.
 -- Assumes nothing.
-use mathlib.Core.Path.{_≡_, refl, ap, sym, _∙_}
+use mathlib.Core.Path.{_≡_, ap, sym, _∙_}
 use mathlib.Core.Bool.{Bool, true, false}
-use mathlib.Core.List.{List, [], _∷_, map}
-use Prim.Native.Nat.{ℕ, _-_}
-use lib.ListN.{length, replicate}
+use mathlib.Core.List.{List, [], _∷_}
+use Prim.Native.Nat.{ℕ}
+use lib.ListN.{replicate}
 use Rattle.model.specs.declared.Refusal.{Refusal}
 use Rattle.model.specs.declared.Reply.{Reply}
-use Rattle.model.specs.declared.Reply.the-variants.{Done, Refused}
-use Rattle.model.specs.Answers.{Answer, done, refused}
-use Rattle.model.specs.IPv4.{ipv4}
+use Rattle.model.specs.declared.Reply.the-variants.{Done}
+use Rattle.address.specs.Here.{Addr, here}
 use Rattle.model.specs.Node as M
-use Rattle.model.specs.Calls.{Outcome, firstOf, unchanged, refuses, kept}
+use Rattle.model.specs.Calls.{firstOf, unchanged}
 use Rattle.node.specs.declared.Node.{Node}
-use Rattle.node.specs.declared.Answer.{Answer as CallAnswer}
-use Rattle.node.specs.Views.{storedView, unstored, packNode, noLetter, plainAnswer, answerOf}
+use Rattle.node.specs.Views.{storedView, packNode, noLetter, plainAnswer, answerOf}
 use Rattle.node.specs.Rows.{unstored-stored, unstored-pack}
 
 -- the first test fails, or it is passed and the others go on
@@ -30,7 +28,7 @@ unfolding answerOf
 unchanged-is reply n = λ i. record { reply = reply; node = unstored-stored n i; letters = replicate 4 noLetter; sent = 0 }
 
 -- a kept call that sends nothing
-pub kept-is : (used : ℕ) (s : M.Node ℕ) (m : Node) → m ≡ packNode s
-    → plainAnswer (Done used) m ≡ answerOf (record { reply = Done used; node = M.stored ipv4 s; messages = []; events = [] })
+pub kept-is : (used : ℕ) (s : M.Node Addr) (m : Node) → m ≡ packNode s
+    → plainAnswer (Done used) m ≡ answerOf (record { reply = Done used; node = M.stored here s; messages = []; events = [] })
 unfolding answerOf
 kept-is used s m e = λ i. record { reply = Done used; node = (e ∙ sym (unstored-pack s)) i; letters = replicate 4 noLetter; sent = 0 }

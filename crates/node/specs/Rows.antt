@@ -1,33 +1,28 @@
 -- Nodes of rows and nodes of lists go over into each other: what one call leaves is what the next one is handed.
 -- Assumes nothing.
 use mathlib.Core.Path.{_≡_, refl, ap, sym, _∙_}
-use mathlib.Core.Bool.{Bool, true, false}
+use mathlib.Core.Bool.{true}
 use mathlib.Core.List.{List, [], _∷_, _++_, map}
-use Prim.Native.Nat.{ℕ, zero, suc, _-_, _≤_}
-use native.Mathlib.Omega.{arith}
+use Prim.Native.Nat.{ℕ, zero, suc, _-_}
 use lib.ListN.{length, take, replicate, length-map}
-use lib.Seq.{take-at}
 use Rattle.model.specs.Rows.{padTo}
-use Rattle.model.specs.Bools.{take-map}
-use Rattle.model.specs.IPv4.{ipv4, ipv4-lawful}
+use Rattle.laws.specs.Bools.{take-map}
+use Rattle.address.specs.Here.{Addr, here, here-lawful}
+use Rattle.model.specs.declared.Kind.the-variants as kind
 use Rattle.model.specs.Words as W
 use Rattle.model.specs.Node as M
 use Rattle.model.specs.Sound.{sound}
-use Rattle.model.specs.Whole.{Whole}
-use Rattle.model.specs.Good.{Good, FullRows, sound-good, good-sound, stored-loaded, loaded-stored}
-use Rattle.heap.specs.declared.Entry.{Entry}
-use Rattle.heap.specs.declared.Heap.{Heap}
-use Rattle.heap.specs.Views.{toEntry, fromEntry, noEntry, heapView, packHeap, from-to-entry, to-from-entry}
+use Rattle.laws_list.specs.Whole.{Whole}
+use Rattle.laws_node.specs.Good.{Good, FullRows, sound-good, stored-loaded}
+use Rattle.heap.specs.Views.{toEntry, fromEntry}
 use Rattle.heap.specs.Views as heaps
-use Rattle.member.specs.declared.Member.{Member}
-use Rattle.member.specs.declared.Members.{Members}
+use Rattle.disseminate.specs.Views.{PackedHeaps}
 use Rattle.member.specs.Views.{toMember, fromMember, viewMembers, packMembers, Held}
 use Rattle.member.specs.Views as members
 use Rattle.member.specs.Packing as packing
-use Rattle.model.specs.Packing as rows
+use Rattle.laws.specs.Packing as rows
 use Rattle.timers.specs.declared.Timer.{Timer}
-use Rattle.timers.specs.declared.Timers.{Timers}
-use Rattle.timers.specs.Views.{toTimer, fromTimer, noTimer, timersView, packTimers}
+use Rattle.timers.specs.Views.{toTimer, fromTimer, noTimer}
 use Rattle.timers.specs.Views as timers
 use Rattle.node.specs.declared.Node.{Node}
 use Rattle.node.specs.Views.{viewNode, packNode, storedView, unstored}
@@ -61,32 +56,30 @@ pub unstored-stored : (n : Node) → unstored (storedView n) ≡ n
 unfolding unstored storedView
 unstored-stored n =
     let t : map fromMember (map toMember (n .members .table)) ≡ n .members .table = packing.from-to (n .members .table) in
-    let a : map fromEntry (map toEntry (n .alive .entries)) ≡ n .alive .entries = heaps.from-to-entries (n .alive .entries) in
-    let d : map fromEntry (map toEntry (n .deceased .entries)) ≡ n .deceased .entries = heaps.from-to-entries (n .deceased .entries) in
+    let a : map fromEntry (map toEntry (n .disseminator .alive .entries)) ≡ n .disseminator .alive .entries = heaps.from-to-entries (n .disseminator .alive .entries) in
+    let d : map fromEntry (map toEntry (n .disseminator .deceased .entries)) ≡ n .disseminator .deceased .entries = heaps.from-to-entries (n .disseminator .deceased .entries) in
     let m : map fromTimer (map toTimer (n .timers .entries)) ≡ n .timers .entries = map-map fromTimer toTimer (n .timers .entries) ∙ map-id (λ (x : Timer). fromTimer (toTimer x)) (λ b. refl) (n .timers .entries) in
     λ i. record {
       settings = n .settings;
       own = n .own;
       members = record { table = t i; order = n .members .order; len = n .members .len; position = n .members .position };
-      alive = record { entries = a i; len = n .alive .len };
-      deceased = record { entries = d i; len = n .deceased .len };
+      disseminator = record { alive = record { entries = a i; len = n .disseminator .alive .len }; deceased = record { entries = d i; len = n .disseminator .deceased .len } };
       timers = record { entries = m i; len = n .timers .len };
     }
 
 -- the rows of a node of lists
-pub unstored-pack : (s : M.Node ℕ) → unstored (M.stored ipv4 s) ≡ packNode s
+pub unstored-pack : (s : M.Node Addr) → unstored (M.stored here s) ≡ packNode s
 unfolding unstored M.stored packNode packMembers
 unstored-pack s =
-    let t = map-pad fromMember 64 (W.noMember ipv4) (s .members .table) in
-    let a = map-pad fromEntry 128 W.unused (s .alive) in
-    let d = map-pad fromEntry 128 W.unused (s .deceased) in
-    let m = map-pad fromTimer 16 (W.noTimer ipv4) (s .timers) in
+    let t = map-pad fromMember 64 (W.noMember here) (s .members .table) in
+    let a = map-pad fromEntry 128 W.unused (s .disseminator .alive) in
+    let d = map-pad fromEntry 128 W.unused (s .disseminator .deceased) in
+    let m = map-pad fromTimer 16 (W.noTimer here) (s .timers) in
     λ i. record {
       settings = s .settings;
       own = s .own;
-      members = record { table = t i; order = padTo 64 (ipv4 .blank) (s .members .order); len = length (s .members .table); position = s .members .position };
-      alive = record { entries = a i; len = length (s .alive) };
-      deceased = record { entries = d i; len = length (s .deceased) };
+      members = record { table = t i; order = padTo 64 (here .blank) (s .members .order); len = length (s .members .table); position = s .members .position };
+      disseminator = record { alive = record { entries = a i; len = length (s .disseminator .alive) }; deceased = record { entries = d i; len = length (s .disseminator .deceased) } };
       timers = record { entries = m i; len = length (s .timers) };
     }
 
@@ -95,70 +88,67 @@ pub loaded-view : (n : Node) → M.loaded (storedView n) ≡ viewNode n
 unfolding M.loaded storedView viewNode viewMembers
 loaded-view n =
     let t = take-map toMember (n .members .len) (n .members .table) in
-    let a = take-map toEntry (n .alive .len) (n .alive .entries) in
-    let d = take-map toEntry (n .deceased .len) (n .deceased .entries) in
+    let a = take-map toEntry (n .disseminator .alive .len) (n .disseminator .alive .entries) in
+    let d = take-map toEntry (n .disseminator .deceased .len) (n .disseminator .deceased .entries) in
     let m = take-map toTimer (n .timers .len) (n .timers .entries) in
     λ i. record {
       settings = n .settings;
       own = n .own;
       members = record { table = t i; order = take (n .members .len) (n .members .order); position = n .members .position };
-      alive = a i;
-      deceased = d i;
+      disseminator = record { alive = a i; deceased = d i };
       timers = m i;
     }
 
 -- what a test that was passed says of a node: it is good, and each part is as its functions ask
 pub record Ready (n : Node) : Type 0 where
-  pub good : Good ipv4 (viewNode n)
+  pub good : Good here (viewNode n)
   pub members : Held (n .members)
-  pub alive : heaps.Packed (n .alive)
-  pub deceased : heaps.Packed (n .deceased)
+  pub heaps : PackedHeaps (n .disseminator)
   pub timers : timers.Packed (n .timers)
 
 -- what is packed is read back
-pub view-pack : (s : M.Node ℕ) → Whole (ipv4 .same) (s .members) → viewNode (packNode s) ≡ s
+pub view-pack : (s : M.Node Addr) → Whole (here .same) (s .members) → viewNode (packNode s) ≡ s
 unfolding packNode viewNode
 view-pack s w =
     let t = packing.view-pack (s .members) (w .long) in
-    let a = heaps.view-pack (s .alive) in
-    let d = heaps.view-pack (s .deceased) in
+    let a = heaps.view-pack (s .disseminator .alive) in
+    let d = heaps.view-pack (s .disseminator .deceased) in
     let m = rows.view-pack toTimer fromTimer (λ x. refl) 16 noTimer (s .timers) in
-    λ i. record { settings = s .settings; own = s .own; members = t i; alive = a i; deceased = d i; timers = m i }
+    λ i. record { settings = s .settings; own = s .own; members = t i; disseminator = record { alive = a i; deceased = d i }; timers = m i }
 
 -- a good node's rows are ready
-pub ready-pack : (s : M.Node ℕ) → Good ipv4 s → Ready (packNode s)
+pub ready-pack : (s : M.Node Addr) → Good here s → Ready (packNode s)
 unfolding packNode
 ready-pack s g =
     record {
       good = rw (view-pack s (g .whole)) g;
       members = packing.held-pack (s .members) (g .whole);
-      alive = heaps.packed-pack (s .alive) (g .alive .few);
-      deceased = heaps.packed-pack (s .deceased) (g .deceased .few);
+      heaps = record { alive = heaps.packed-pack (s .disseminator .alive) (g .heaps kind.Alive .few); deceased = heaps.packed-pack (s .disseminator .deceased) (g .heaps kind.Deceased .few) };
       timers = rows.packed-pack toTimer fromTimer 16 noTimer (s .timers) (g .few);
     }
 
 -- arrays have their lengths, so the rows are full
-pub full-rows : (n : Node) → length (n .members .table) ≡ 64 → length (n .members .order) ≡ 64 → length (n .alive .entries) ≡ 128 → length (n .deceased .entries) ≡ 128 → length (n .timers .entries) ≡ 16
+pub full-rows : (n : Node) → length (n .members .table) ≡ 64 → length (n .members .order) ≡ 64 → length (n .disseminator .alive .entries) ≡ 128 → length (n .disseminator .deceased .entries) ≡ 128 → length (n .timers .entries) ≡ 16
     → FullRows (storedView n)
 unfolding storedView
 full-rows n a b c d e =
     record {
       table = length-map (n .members .table) toMember ∙ a;
       order = b;
-      alive = length-map (n .alive .entries) toEntry ∙ c;
-      deceased = length-map (n .deceased .entries) toEntry ∙ d;
+      alive = length-map (n .disseminator .alive .entries) toEntry ∙ c;
+      deceased = length-map (n .disseminator .deceased .entries) toEntry ∙ d;
       timers = length-map (n .timers .entries) toTimer ∙ e;
     }
 
 -- a node that passes the test is ready, and it is the packed node that it holds
-pub sound-pack : (n : Node) → FullRows (storedView n) → sound ipv4 (storedView n) ≡ true → packNode (viewNode n) ≡ n
+pub sound-pack : (n : Node) → FullRows (storedView n) → sound here (storedView n) ≡ true → packNode (viewNode n) ≡ n
 sound-pack n f e =
     ap packNode (sym (loaded-view n))
     ∙ sym (unstored-pack (M.loaded (storedView n)))
-    ∙ ap unstored (stored-loaded ipv4 ipv4-lawful (storedView n) f e)
+    ∙ ap unstored (stored-loaded here here-lawful (storedView n) f e)
     ∙ unstored-stored n
 
-pub sound-ready : (n : Node) → FullRows (storedView n) → sound ipv4 (storedView n) ≡ true → Ready n
+pub sound-ready : (n : Node) → FullRows (storedView n) → sound here (storedView n) ≡ true → Ready n
 sound-ready n f e =
-    let g : Good ipv4 (viewNode n) = rw (sym (loaded-view n)) (sound-good ipv4 ipv4-lawful (storedView n) f e) in
+    let g : Good here (viewNode n) = rw (sym (loaded-view n)) (sound-good here here-lawful (storedView n) f e) in
     rw (sym (sound-pack n f e)) (ready-pack (viewNode n) g)

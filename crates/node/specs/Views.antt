@@ -1,68 +1,64 @@
 -- How a node of rows carries the model's node, and how an answer carries the model's outcome.
 -- Assumes nothing.
-use mathlib.Core.Path.{_≡_}
 use mathlib.Core.Bool.{Bool, true, false}
-use mathlib.Core.List.{List, [], _∷_, _++_, map}
-use mathlib.Core.Option.{Option, none, some}
-use Prim.Native.Nat.{ℕ}
-use lib.ListN.{length, take, replicate}
+use mathlib.Core.List.{[], map}
+use lib.ListN.{length, replicate}
 use Rattle.model.specs.declared.Reply.{Reply}
 use Rattle.model.specs.declared.Reply.the-variants.{Done, Refused}
 use Rattle.model.specs.declared.Settings.{Settings}
 use Rattle.model.specs.Rows.{padTo}
-use Rattle.model.specs.IPv4.{ipv4}
+use Rattle.address.specs.Here.{Addr, here}
 use Rattle.model.specs.Answers as A
 use Rattle.model.specs.Words as W
 use Rattle.model.specs.Node as M
 use Rattle.model.specs.Calls as calls
-use Rattle.types.specs.declared.Action.{Action}
 use Rattle.types.specs.declared.Action.the-variants.{Ping}
 use Rattle.types.specs.declared.Optional.the-variants.{Absent}
 use Rattle.types.specs.Views.{fromAction, fromGossip, noGossip}
 use Rattle.heap.specs.declared.Heap.{Heap}
-use Rattle.heap.specs.Views.{fromEntry, heapView, packHeap}
+use Rattle.heap.specs.Views.{fromEntry}
 use Rattle.heap.specs.Kinds.{rowView as heapRow}
+use Rattle.disseminate.specs.declared.Disseminator.{Disseminator}
+use Rattle.disseminate.specs.Views.{viewDisseminator, packDisseminator, noNews}
 use Rattle.member.specs.declared.Members.{Members}
 use Rattle.member.specs.Views.{toMember, fromMember, viewMembers, packMembers}
 use Rattle.timers.specs.declared.Timers.{Timers}
-use Rattle.timers.specs.Views.{toTimer, fromTimer, timersView, packTimers, rowView}
+use Rattle.timers.specs.Views.{fromTimer, timersView, packTimers, rowView}
 use Rattle.node.specs.declared.Node.{Node}
 use Rattle.node.specs.declared.Letter.{Letter}
 use Rattle.node.specs.declared.Answer.{Answer}
 use Rattle.node.specs.declared.parts.Spread.{Spread}
 
 -- the node that the rows hold, and the rows that hold a node
-unfoldable pub viewNode : Node → M.Node ℕ
+unfoldable pub viewNode : Node → M.Node Addr
 viewNode n =
     record {
       settings = n .settings;
       own = n .own;
       members = viewMembers (n .members);
-      alive = heapView (n .alive);
-      deceased = heapView (n .deceased);
+      disseminator = viewDisseminator (n .disseminator);
       timers = timersView (n .timers);
     }
 
-unfoldable pub packNode : M.Node ℕ → Node
+unfoldable pub packNode : M.Node Addr → Node
 packNode s =
     record {
       settings = s .settings;
       own = s .own;
       members = packMembers (s .members);
-      alive = packHeap (s .alive);
-      deceased = packHeap (s .deceased);
+      disseminator = packDisseminator (s .disseminator);
       timers = packTimers (s .timers);
     }
 
 -- the heap of a row
-abbrev pub rowHeap : M.Row (W.Entry ℕ) → Heap
+abbrev pub rowHeap : M.Row (W.Entry Addr) → Heap
 rowHeap r = record { entries = map fromEntry (r .places); len = r .used }
 
-abbrev pub rowTimers : M.Row (W.Timer ℕ) → Timers
+abbrev pub rowTimers : M.Row (W.Timer Addr) → Timers
 rowTimers r = record { entries = map fromTimer (r .places); len = r .used }
 
 -- the rows as the model keeps them, used places and unused ones; and back
-unfoldable pub storedView : Node → M.Stored ℕ
+unfoldable pub storedView : Node → M.Stored Addr
 storedView n =
     record {
       settings = n .settings;
@@ -71,57 +67,56 @@ storedView n =
       order = n .members .order;
       listed = n .members .len;
       position = n .members .position;
-      alive = heapRow (n .alive);
-      deceased = heapRow (n .deceased);
+      alive = heapRow (n .disseminator .alive);
+      deceased = heapRow (n .disseminator .deceased);
       timers = rowView (n .timers);
     }
 
-unfoldable pub unstored : M.Stored ℕ → Node
+unfoldable pub unstored : M.Stored Addr → Node
 unstored s =
     record {
       settings = s .settings;
       own = s .own;
       members = record { table = map fromMember (s .table); order = s .order; len = s .listed; position = s .position };
-      alive = rowHeap (s .alive);
-      deceased = rowHeap (s .deceased);
+      disseminator = record { alive = rowHeap (s .alive); deceased = rowHeap (s .deceased) };
       timers = rowTimers (s .timers);
     }
 
 -- a node with a part replaced
 abbrev pub withMembers : Node → Members → Node
-withMembers n m = record { settings = n .settings; own = n .own; members = m; alive = n .alive; deceased = n .deceased; timers = n .timers }
+withMembers n m = record { settings = n .settings; own = n .own; members = m; disseminator = n .disseminator; timers = n .timers }
 
-abbrev pub withHeaps : Node → Heap → Heap → Node
-withHeaps n a d = record { settings = n .settings; own = n .own; members = n .members; alive = a; deceased = d; timers = n .timers }
+abbrev pub withDisseminator : Node → Disseminator → Node
+withDisseminator n d = record { settings = n .settings; own = n .own; members = n .members; disseminator = d; timers = n .timers }
 
 abbrev pub withTimers : Node → Timers → Node
-withTimers n t = record { settings = n .settings; own = n .own; members = n .members; alive = n .alive; deceased = n .deceased; timers = t }
+withTimers n t = record { settings = n .settings; own = n .own; members = n .members; disseminator = n .disseminator; timers = t }
 
 -- an event was pushed, or the node is as it came since its heap was full
 pub record Emitted : Type 0 where
   pub node : Node
   pub full : Bool
 
-abbrev pub emittedOf : Node → A.Answer (M.Out ℕ) → Emitted
+abbrev pub emittedOf : Node → A.Answer (M.Out Addr) → Emitted
 emittedOf n (A.refused r) = record { node = n; full = true }
 emittedOf n (A.done o ds) = record { node = packNode (o .node); full = false }
 
 -- gossip was chosen, into a row of 64
-abbrev pub spreadOf : M.Spread ℕ → Spread
+abbrev pub spreadOf : M.Spread Addr → Spread
 spreadOf c = record { node = packNode (c .node); rows = padTo 64 noGossip (map fromGossip (c .gossip)); count = length (c .gossip) }
 
 -- an unused place of the letters
 abbrev pub noLetter : Letter
-noLetter = record { target = ipv4 .blank; action = Ping (ipv4 .blank) Absent; count = 0 }
+noLetter = record { target = here .blank; action = Ping (here .blank) Absent; count = 0 }
 
-abbrev pub fromMessage : W.Message ℕ → Letter
+abbrev pub fromMessage : W.Message Addr → Letter
 fromMessage m = record { target = m .target; action = fromAction (m .action); count = length (m .gossip) }
 
 abbrev pub plainAnswer : Reply → Node → Answer
 plainAnswer reply n = record { reply = reply; node = n; letters = replicate 4 noLetter; sent = 0 }
 
 -- how a call ended, its node and its letters. The gossip of the letters stands in a row of its own
-unfoldable pub answerOf : calls.Outcome ℕ → Answer
+unfoldable pub answerOf : calls.Outcome Addr → Answer
 answerOf o =
     record {
       reply = o .reply;
@@ -144,17 +139,16 @@ noSettings =
       «max_size» = 0;
     }
 
-abbrev pub nobody : M.Node ℕ
+abbrev pub nobody : M.Node Addr
 nobody =
     record {
       settings = noSettings;
-      own = ipv4 .blank;
+      own = here .blank;
       members = record { table = []; order = []; position = 0 };
-      alive = [];
-      deceased = [];
+      disseminator = noNews;
       timers = [];
     }
 
-unfoldable pub createdOf : calls.Created ℕ → Answer
+unfoldable pub createdOf : calls.Created Addr → Answer
 createdOf (calls.created s) = plainAnswer (Done 0) (unstored s)
 createdOf (calls.notCreated r) = plainAnswer (Refused r) (packNode nobody)

@@ -1,22 +1,22 @@
-// A node as a value: its settings, its own address, the list, both heaps and the timers. And the calls that need nothing else.
+// A node as a value: its settings, its own address, the list, the disseminator and the timers. And the calls that need nothing else.
 pub mod parts;
 pub mod settings;
 pub mod tests;
 
 use address::Address;
-use heap::Heap;
+use disseminate::Disseminator;
 use member::Member;
 use member::Members;
+use model::Drew;
 use model::Refusal;
 use model::Reply;
 use model::Settings;
-use order::Drew;
 use timers::Timers;
 use types::Action;
 use types::Optional;
 ghost use mathlib.Core.Path.{_≡_};
 ghost use lib.ListN.{length};
-ghost use Rattle.model.specs.IPv4.{ipv4};
+ghost use Rattle.address.specs.Here.{here};
 ghost use Rattle.model.specs.Node.{fresh};
 ghost use Rattle.model.specs.Calls as calls;
 ghost use Rattle.member.specs.Views.{packMembers};
@@ -26,8 +26,7 @@ pub struct Node {
     pub settings: Settings,
     pub own: Address,
     pub members: Members,
-    pub alive: Heap,
-    pub deceased: Heap,
+    pub disseminator: Disseminator,
     pub timers: Timers,
 }
 
@@ -40,8 +39,7 @@ impl Node {
             settings,
             own,
             members: Members::new(own, number),
-            alive: Heap::new(),
-            deceased: Heap::new(),
+            disseminator: Disseminator::new(),
             timers: Timers::new(),
         }
     }
@@ -64,8 +62,7 @@ impl Node {
             settings,
             own: address::blank(),
             members: nobody_listed(),
-            alive: Heap::new(),
-            deceased: Heap::new(),
+            disseminator: Disseminator::new(),
             timers: Timers::new(),
         }
     }
@@ -145,7 +142,7 @@ impl Answer {
 
 // Creation takes settings, own address and its number. It tests 5, then 1; refused, it returns no node.
 pub fn create(settings: Settings, own: Address, number: u64) -> Answer
-    ensures { λ r. ⌜ r ≡ createdOf (calls.create ipv4 settings own number) ⌝ }
+    ensures { λ r. ⌜ r ≡ createdOf (calls.create here settings own number) ⌝ }
 {
     if !address::in_range(own) {
         return Answer::refused(Refusal::AddressRange, Node::none());
@@ -158,7 +155,7 @@ pub fn create(settings: Settings, own: Address, number: u64) -> Answer
 
 // Adding a peer at a given number: 2, 5, already, 7, 8. No event.
 pub fn add_peer(node: Node, a: Address, number: u64, draws: &[u64]) -> Answer
-    ensures { λ r. ⌜ r ≡ answerOf (calls.addPeer ipv4 (storedView node) a number (now (draws .entry))) ⌝ }
+    ensures { λ r. ⌜ r ≡ answerOf (calls.addPeer here (storedView node) a number (now (draws .entry))) ⌝ }
 {
     tests::has_rows(node);
     if !tests::sound(node) {

@@ -1,7 +1,7 @@
 // The parts of a node that rules replace, and what a rule does to one of them.
 use crate::Node;
 use address::Address;
-use heap::Heap;
+use disseminate::Disseminator;
 use member::Member;
 use member::Members;
 use model::State;
@@ -9,9 +9,9 @@ use timers::Timers;
 use types::Gossip;
 ghost use mathlib.Core.Path.{_≡_};
 ghost use Prim.Native.Nat.{_≤_};
-ghost use Rattle.model.specs.IPv4.{ipv4};
+ghost use Rattle.address.specs.Here.{here};
 ghost use Rattle.model.specs.Node as M;
-ghost use Rattle.node.specs.Views.{viewNode, packNode, withMembers, withHeaps, withTimers, spreadOf};
+ghost use Rattle.node.specs.Views.{viewNode, packNode, withMembers, withDisseminator, withTimers, spreadOf};
 ghost use Rattle.node.specs.Rows.{Ready};
 
 impl Node {
@@ -19,21 +19,19 @@ impl Node {
         ensures { λ r. ⌜ r ≡ withMembers self members ⌝ }
     {
         let settings = self.settings;
-        let alive = self.alive;
-        let deceased = self.deceased;
+        let disseminator = self.disseminator;
         let timers = self.timers;
         Node {
             settings,
             own: self.own,
             members,
-            alive,
-            deceased,
+            disseminator,
             timers,
         }
     }
 
-    pub fn with_heaps(self, alive: Heap, deceased: Heap) -> Node
-        ensures { λ r. ⌜ r ≡ withHeaps self alive deceased ⌝ }
+    pub fn with_disseminator(self, disseminator: Disseminator) -> Node
+        ensures { λ r. ⌜ r ≡ withDisseminator self disseminator ⌝ }
     {
         let settings = self.settings;
         let members = self.members;
@@ -42,8 +40,7 @@ impl Node {
             settings,
             own: self.own,
             members,
-            alive,
-            deceased,
+            disseminator,
             timers,
         }
     }
@@ -53,14 +50,12 @@ impl Node {
     {
         let settings = self.settings;
         let members = self.members;
-        let alive = self.alive;
-        let deceased = self.deceased;
+        let disseminator = self.disseminator;
         Node {
             settings,
             own: self.own,
             members,
-            alive,
-            deceased,
+            disseminator,
             timers,
         }
     }
@@ -68,7 +63,7 @@ impl Node {
     // The record of a listed address is replaced.
     pub fn change(self, a: Address, state: State, number: u64) -> Node
         requires { ⌜ Ready self ⌝ }
-        ensures { λ r. ⌜ r ≡ packNode (M.change ipv4 a state number (viewNode self)) ⌝ }
+        ensures { λ r. ⌜ r ≡ packNode (M.change here a state number (viewNode self)) ⌝ }
     {
         let members = self.members;
         let after = members.update_member(Member {
@@ -82,20 +77,25 @@ impl Node {
     // Gossip is chosen for a message, at as many members as are listed.
     pub fn spread(self) -> Spread
         requires { ⌜ Ready self ⌝ }
-        ensures { λ r. ⌜ r ≡ spreadOf (M.spread ipv4 (viewNode self)) ⌝ }
+        ensures { λ r. ⌜ r ≡ spreadOf (M.spread here (viewNode self)) ⌝ }
         ensures within { λ r. ⌜ r .count ≤ 58 ⌝ }
     {
         let settings = self.settings;
         let members = self.members;
-        let alive = self.alive;
-        let deceased = self.deceased;
+        let held = self.disseminator;
+        let alive = held.alive;
+        let deceased = held.deceased;
         let choice = disseminate::get_gossip(alive, deceased, settings, members.len);
         let living = choice.alive;
         let dead = choice.deceased;
         let chosen = choice.chosen;
         let rows = chosen.rows;
+        let left = Disseminator {
+            alive: living,
+            deceased: dead,
+        };
         Spread {
-            node: self.with_heaps(living, dead),
+            node: self.with_disseminator(left),
             rows,
             count: chosen.count,
         }

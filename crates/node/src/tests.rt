@@ -3,42 +3,38 @@ use crate::Node;
 use address::Address;
 use heap::Entry;
 use heap::Heap;
-use heap::sound::Kind;
 use member::Member;
 use member::Members;
+use model::Kind;
+use model::both;
 use timers::Timer;
 use timers::Timers;
 ghost use mathlib.Core.Path.{_≡_};
 ghost use lib.ListN.{length};
-ghost use Rattle.model.specs.IPv4.{ipv4};
-ghost use Rattle.model.specs.Good.{FullRows};
+ghost use Rattle.address.specs.Here.{here};
+ghost use Rattle.laws_node.specs.Good.{FullRows};
 ghost use Rattle.model.specs.Sound as tests;
 ghost use Rattle.node.specs.Views.{storedView};
 
 pub fn sound(node: Node) -> bool
-    ensures { λ r. ⌜ r ≡ tests.sound ipv4 (storedView node) ⌝ }
+    ensures { λ r. ⌜ r ≡ tests.sound here (storedView node) ⌝ }
 {
     let settings = node.settings;
-    if !crate::settings::in_range(settings) {
-        return false;
-    }
-    if !address::in_range(node.own) {
-        return false;
-    }
+    let set = crate::settings::in_range(settings);
+    let own = address::in_range(node.own);
     let members = node.members;
-    if !member::sound::sound_members(members) {
-        return false;
-    }
-    let alive = node.alive;
-    if !heap::sound::heap_sound(alive, Kind::Alive) {
-        return false;
-    }
-    let deceased = node.deceased;
-    if !heap::sound::heap_sound(deceased, Kind::Deceased) {
-        return false;
-    }
+    let listed = member::sound::sound_members(members);
+    let disseminator = node.disseminator;
+    let alive = disseminator.alive;
+    let living = heap::sound::heap_sound(alive, Kind::Alive);
+    let deceased = disseminator.deceased;
+    let dead = heap::sound::heap_sound(deceased, Kind::Deceased);
     let timers = node.timers;
-    timers::sound_timers(timers)
+    let running = timers::sound_timers(timers);
+    both(
+        both(both(both(both(set, own), listed), living), dead),
+        running,
+    )
 }
 
 // An array has as many places as its type says. The prover finds this of an array that stands by itself, so each is handed over once.
@@ -63,8 +59,9 @@ pub fn has_rows(node: Node)
     ensures { λ _. ⌜ FullRows (storedView node) ⌝ }
 {
     let members = node.members;
-    let alive = node.alive;
-    let deceased = node.deceased;
+    let disseminator = node.disseminator;
+    let alive = disseminator.alive;
+    let deceased = disseminator.deceased;
     let timers = node.timers;
     let table = members.table;
     has_table(table);

@@ -7,12 +7,13 @@ use native.Mathlib.Omega.{arith}
 use native.Mathlib.Numerals.{add-one}
 use lib.ListN.{length, getD, take, drop, length-drop, take-append-drop, drop-of-length-le}
 use lib.Seq.{drop-cons, take-set-lt, drop-set-lt, getD-take}
+use Rattle.address.specs.Here.{Addr}
 use Rattle.model.specs.Rows.{swap}
 use Rattle.model.specs.declared.Refusal.the-variants.{DrawsShort}
 use Rattle.model.specs.Answers.{done, refused}
 use Rattle.model.specs.Members.{shuffleFrom}
 use Rattle.order.specs.declared.Shuffled.{Shuffled}
-use Rattle.order.specs.declared.Drew.the-variants.{Used}
+use Rattle.model.specs.declared.Drew.the-variants.{Used}
 use Rattle.order.specs.Views.{shuffledAs}
 
 module _ {A : Type 0} (z : A) where
@@ -45,9 +46,9 @@ module _ {A : Type 0} (z : A) where
   unfolding swap
   drop-swap n l i j hi hj = simp drop-set-lt
 
-pub shuffled-done : (row out ds : List ℕ) (n from next : ℕ) → drop n out ≡ drop n row → from ≤ next → next ≤ length ds
+pub shuffled-done : (row out : List Addr) (ds : List ℕ) (n from next : ℕ) → drop n out ≡ drop n row → from ≤ next → next ≤ length ds
     → _≡_ {A = Shuffled} (record { row = out; drew = Used (next - from) }) (shuffledAs row n (length ds - from) (done (take n out) (drop next ds)))
 shuffled-done row out ds n from next e h k =
-    let p : out ≡ take n out ++ drop n row = sym (take-append-drop n out) ∙ ap (λ (r : List ℕ). take n out ++ r) e in
+    let p : out ≡ take n out ++ drop n row = sym (take-append-drop n out) ∙ ap (λ (r : List Addr). take n out ++ r) e in
     let q : next - from ≡ length ds - from - length (drop next ds) = omega (arith, length-drop next ds) in
     λ i. record { row = p i; drew = Used (q i) }

@@ -8,12 +8,12 @@ use native.Mathlib.Nat.{not-suc-le-zero, le-of-suc-le-suc}
 use lib.ListN.{length, getD, take, drop}
 use lib.Seq.{take-at, length-take-le}
 use Rattle.model.specs.Answers.{Answer, done, refused}
-use Rattle.model.specs.After.{After, halts, gives}
-use Rattle.model.specs.IPv4.{ipv4}
+use Rattle.laws.specs.After.{After, halts, gives}
+use Rattle.address.specs.Here.{Addr, here}
 use Rattle.model.specs.Rows.{insertAt, removeAt, occurs}
 use Rattle.model.specs.Members.{shuffle}
-use Rattle.model.specs.Whole.{Alike, shuffle-alike}
-use Rattle.order.specs.declared.Drew.the-variants.{Used}
+use Rattle.laws_list.specs.Whole.{Alike, shuffle-alike}
+use Rattle.model.specs.declared.Drew.the-variants.{Used}
 use Rattle.order.specs.Views.{shuffledAs, shuffledOf}
 
 module _ {A : Type 0} where
@@ -32,14 +32,14 @@ module _ {A : Type 0} where
   remove-one-place (y ∷ l) (suc i) d h = ap (λ (m : List A). y ∷ m) (remove-one-place l i d (le-of-suc-le-suc h))
 
 -- a shuffle that was made holds each address as often as before
-pub shuffle-permutes : (row : List ℕ) (n : ℕ) (draws : List ℕ) (from used : ℕ) → n ≤ length row → shuffledOf row n draws from .drew ≡ Used used
-    → (a : ℕ) → occurs (ipv4 .same) a (take n (shuffledOf row n draws from .row)) ≡ occurs (ipv4 .same) a (take n row)
+pub shuffle-permutes : (row : List Addr) (n : ℕ) (draws : List ℕ) (from used : ℕ) → n ≤ length row → shuffledOf row n draws from .drew ≡ Used used
+    → (a : Addr) → occurs (here .same) a (take n (shuffledOf row n draws from .row)) ≡ occurs (here .same) a (take n row)
 unfolding shuffle
 shuffle-permutes row n draws from used h e a =
-    kept (shuffle (ipv4 .blank) (take n row) (drop from draws)) (shuffle-alike (ipv4 .same) (ipv4 .blank) (length (take n row) - 1) (take n row) (drop from draws) (omega arith)) e
+    kept (shuffle (here .blank) (take n row) (drop from draws)) (shuffle-alike (here .same) (here .blank) (length (take n row) - 1) (take n row) (drop from draws) (omega arith)) e
   where
-    kept : (x : Answer (List ℕ)) → After (Alike (ipv4 .same) (take n row)) x → shuffledAs row n (length draws - from) x .drew ≡ Used used
-        → occurs (ipv4 .same) a (take n (shuffledAs row n (length draws - from) x .row)) ≡ occurs (ipv4 .same) a (take n row)
+    kept : (x : Answer (List Addr)) → After (Alike (here .same) (take n row)) x → shuffledAs row n (length draws - from) x .drew ≡ Used used
+        → occurs (here .same) a (take n (shuffledAs row n (length draws - from) x .row)) ≡ occurs (here .same) a (take n row)
     kept (refused r) halts q = refl
     kept (done l rest) (gives k) q =
-        ap (occurs (ipv4 .same) a) (take-at l (drop n row) n (k .long ∙ length-take-le n row h)) ∙ k .counts a
+        ap (occurs (here .same) a) (take-at l (drop n row) n (k .long ∙ length-take-le n row h)) ∙ k .counts a

@@ -7,8 +7,8 @@ use native.Mathlib.Omega.{arith}
 use lib.ListN.{length, drop}
 use Rattle.model.specs.declared.Refusal.{Refusal}
 use Rattle.model.specs.Answers.{Answer, done, refused}
-use Rattle.model.specs.Draws.{Leaves, rest-is}
-use Rattle.order.specs.declared.Drew.the-variants.{Used, Refused}
+use Rattle.laws_list.specs.Draws.{Leaves, rest-is}
+use Rattle.model.specs.declared.Drew.the-variants.{Used, Refused}
 use Rattle.order.specs.Views.{drewOf}
 
 module _ {B : Type 0} (k : ℕ) where

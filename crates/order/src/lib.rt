@@ -1,14 +1,15 @@
 // The probing order: a row of 64 places, taken and handed back whole.
 use address::Address;
+use model::Drew;
 use model::Refusal;
 ghost use mathlib.Core.Path.{_≡_};
 ghost use mathlib.Core.List.{[]};
 ghost use Prim.Native.Nat.{_+_, _-_, _≤_, _<_, min};
 ghost use lib.ListN.{length, take, getD, set};
-ghost use Rattle.model.specs.IPv4.{ipv4};
+ghost use Rattle.address.specs.Here.{here};
 ghost use Rattle.model.specs.Rows.{insertAt, removeAt, padTo};
 ghost use Rattle.model.specs.Members.{passed as passedOver, looks as looksOf, cap as capOf};
-ghost use Rattle.model.specs.Places.{placeOf};
+ghost use Rattle.laws_list.specs.Places.{placeOf};
 ghost use Rattle.order.specs.Views.{shuffledOf, Ready, turnedOf, excluded, picksOf, notedOf, goesOn, refusedPick, pickedOf};
 
 // The order of a list, and the place that is probed next.
@@ -22,16 +23,10 @@ impl Order {
     pub const CAPACITY: usize = 64;
 }
 
-// How a rule that reads draws ended: how many it used, or why it was refused.
-pub enum Drew {
-    Used(usize),
-    Refused(Refusal),
-}
-
 // The first place that holds an address, or n where none of the first n does. The row is only read, so it is lent.
 pub fn find_place(row: &[Address; Order::CAPACITY], n: usize, a: Address) -> usize
     requires { ⌜ (n ≤ 64) × (length (now row) ≡ 64) ⌝ }
-    ensures { λ r. ⌜ r ≡ placeOf (ipv4 .same) a (take n (now (row .entry))) ⌝ }
+    ensures { λ r. ⌜ r ≡ placeOf (here .same) a (take n (now (row .entry))) ⌝ }
     ensures within { λ r. ⌜ r ≤ n ⌝ }
 {
     let mut i = 0;
@@ -52,7 +47,7 @@ pub fn insert(
     x: Address,
 ) -> [Address; Order::CAPACITY]
     requires { ⌜ (n < 64) × (place ≤ n) ⌝ }
-    ensures { λ r. ⌜ r ≡ padTo 64 (ipv4 .blank) (insertAt (take n row) place x) ⌝ }
+    ensures { λ r. ⌜ r ≡ padTo 64 (here .blank) (insertAt (take n row) place x) ⌝ }
 {
     let mut out = [address::blank(); Order::CAPACITY];
     let mut i = 0;
@@ -72,7 +67,7 @@ pub fn insert(
 // The row by value: one place less. A place of the first n goes, and the rest closes up.
 pub fn remove(row: [Address; Order::CAPACITY], n: usize, place: usize) -> [Address; Order::CAPACITY]
     requires { ⌜ (n ≤ 64) × (place < n) ⌝ }
-    ensures { λ r. ⌜ r ≡ padTo 64 (ipv4 .blank) (removeAt (take n row) place) ⌝ }
+    ensures { λ r. ⌜ r ≡ padTo 64 (here .blank) (removeAt (take n row) place) ⌝ }
 {
     let mut out = [address::blank(); Order::CAPACITY];
     let mut i = 0;
@@ -171,7 +166,7 @@ pub enum Exclusion {
 
 // Own and excluded addresses are passed over.
 fn passed(own: Address, exclusion: Exclusion, x: Address) -> bool
-    ensures { λ r. ⌜ r ≡ passedOver (ipv4 .same) (ipv4 .blank) own (excluded exclusion) x ⌝ }
+    ensures { λ r. ⌜ r ≡ passedOver (here .same) (here .blank) own (excluded exclusion) x ⌝ }
 {
     if address::same(own, x) {
         return true;
@@ -184,7 +179,7 @@ fn passed(own: Address, exclusion: Exclusion, x: Address) -> bool
 
 // How many looks each pick may take: they are enough on a sound list.
 fn looks(exclusion: Exclusion) -> usize
-    ensures { λ r. ⌜ r ≡ looksOf (ipv4 .same) (ipv4 .blank) (ipv4 .blank) (excluded exclusion) ⌝ }
+    ensures { λ r. ⌜ r ≡ looksOf (here .same) (here .blank) (here .blank) (excluded exclusion) ⌝ }
     ensures within { λ r. ⌜ r ≤ 5 ⌝ }
 {
     match exclusion {
@@ -205,7 +200,7 @@ fn at_most(wanted: usize, n: usize, kept: usize) -> usize
 
 // Wanted, capped at n - 1, or n - 2 with an exclusion, never below 0.
 fn cap(exclusion: Exclusion, wanted: usize, n: usize) -> usize
-    ensures { λ r. ⌜ r ≡ capOf (ipv4 .same) (ipv4 .blank) (ipv4 .blank) (excluded exclusion) wanted n ⌝ }
+    ensures { λ r. ⌜ r ≡ capOf (here .same) (here .blank) (here .blank) (excluded exclusion) wanted n ⌝ }
     ensures within { λ r. ⌜ (r ≤ wanted) × (r ≤ n - 1) ⌝ }
 {
     match exclusion {

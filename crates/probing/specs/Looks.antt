@@ -9,10 +9,10 @@ use native.Mathlib.Omega.{arith}
 use lib.ListN.{length, getD, drop}
 use Rattle.model.specs.Rows.{pick}
 use Rattle.model.specs.Answers.{done, refused}
-use Rattle.model.specs.After.{given}
+use Rattle.laws.specs.After.{given}
 use Rattle.model.specs.Members.{Members, advance, passed, looks, cap}
-use Rattle.model.specs.Whole.{Whole}
-use Rattle.model.specs.Picks.{Drawn, Moved, advance-drawn, after-drawn, room, cost, cost-le, cost-pos, pays, skips-room, skips-drop}
+use Rattle.laws_list.specs.Whole.{Whole}
+use Rattle.laws_pick.specs.Picks.{Drawn, Moved, advance-drawn, after-drawn, room, cost, cost-le, cost-pos, pays, skips-room, skips-drop}
 
 module _ {A : Type 0} (same : A → A → Bool) (blank own : A) where
   -- how often a pick of k advances, if it may look f times

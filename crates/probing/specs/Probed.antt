@@ -11,11 +11,11 @@ use native.Mathlib.Decide.{ℕ-discrete}
 use lib.ListN.{length, getD, drop, drop-of-length-le}
 use Rattle.model.specs.Rows.{one, pick, has, occurs, Test}
 use Rattle.model.specs.Answers.{Answer, done, refused, andThen}
-use Rattle.model.specs.After.{After, halts, gives, after-then, after-map}
+use Rattle.laws.specs.After.{After, halts, gives, after-then, after-map}
 use Rattle.model.specs.Members.{Members, Picked, addrs, seek, pickFrom}
-use Rattle.model.specs.Counts.{has-none}
-use Rattle.model.specs.Whole.{Whole}
-use Rattle.model.specs.Picks.{Moved, advance-drawn, after-drawn, here, cost, cost-le, cost-pos, pays, skips-room, skips-drop}
+use Rattle.laws.specs.Counts.{has-none}
+use Rattle.laws_list.specs.Whole.{Whole}
+use Rattle.laws_pick.specs.Picks.{Moved, advance-drawn, after-drawn, here, cost, cost-le, cost-pos, pays, skips-room, skips-drop}
 
 module _ {A : Type 0} (same : A → A → Bool) (test : Test same) (blank own b : A) where
   abbrev peers : List A → ℕ

@@ -9,7 +9,7 @@ use lib.ListN.{length, take, drop}
 use Rattle.model.specs.declared.Settings.{Settings}
 use Rattle.model.specs.Rows.{one, occurs}
 use Rattle.model.specs.Bounds.{Room}
-use Rattle.model.specs.IPv4.{ipv4, ipv4-lawful}
+use Rattle.address.specs.Here.{Addr, here, here-lawful}
 use Rattle.model.specs.Words as W
 use Rattle.model.specs.Words.{Deceased}
 use Rattle.model.specs.Node as M
@@ -41,24 +41,24 @@ use Rattle.promises.specs.Runs.{Runs, rests, makes, world, seen, made-is
 
 -- what demand 3 says of one call of a run, by its moments ms and the ledger t before it: about the node that the program handed in and the one it was handed back, and the events that
 -- stand in its row
-pub record Account (a own : ℕ) (t : Tally) (h : Held) (c : Call ℕ) (s : Said) (h′ : Held) (ms : List (Moment ℕ)) : Type 0 where
+pub record Account (a own : Addr) (t : Tally) (h : Held) (c : Call Addr) (s : Said) (h′ : Held) (ms : List (Moment Addr)) : Type 0 where
   -- the moments lead from the node before the call to the node after it
   pub leads : Leads (viewNode (h .node)) ms (viewNode (h′ .node))
   -- what they said stands in the row for events, and nothing else was written there
   pub events : h′ .events ≡ rowAfter (saidBy ms) (h .events)
   pub reported : s .reported ≡ length (saidBy ms)
   -- they were asked what the call asks: each record of a message in its order, then a Ping's sender; and so on
-  pub asks : deedsIn ms ≡ askedBy ipv4 (s .reply) (asked ipv4 c (seen h) (toWait (h′ .wait) .state))
+  pub asks : deedsIn ms ≡ askedBy here (s .reply) (asked here c (seen h) (toWait (h′ .wait) .state))
   -- "while listed, its number never falls save at the ping-request step"; "a death notice that removes a peer carries a number no lower than any reported for it"
-  pub fine : Along ipv4 a own ms t
+  pub fine : Along here a own ms t
   -- a step that sends a ping and then waits for the peer b sent it to b, and to nobody else
   pub pings : (now : ℕ) (ds : List ℕ) (lent : Room) (b n : ℕ) → c ≡ Step now ds lent → toWait (h .wait) .state ≡ W.SendingPing → toWait (h′ .wait) .state ≡ W.WaitingForPingAck b n → map (λ l. l .target) (s .letters) ≡ b ∷ []
 
 -- the call that took an address out, in a run from one node to another: which one it is, the nodes before and after it, at which of its moments, and by what
-pub record Departure (a : ℕ) (n : Node) (w : Wait) (cs : List (Call ℕ)) (n′ : Node) (w′ : Wait) : Type 0 where
-  pub earlier : List (Call ℕ)
-  pub call : Call ℕ
-  pub later : List (Call ℕ)
+pub record Departure (a : Addr) (n : Node) (w : Wait) (cs : List (Call Addr)) (n′ : Node) (w′ : Wait) : Type 0 where
+  pub earlier : List (Call Addr)
+  pub call : Call Addr
+  pub later : List (Call Addr)
   pub splits : cs ≡ earlier ++ (call ∷ later)
   pub before : Held
   pub said : Said
@@ -67,15 +67,15 @@ pub record Departure (a : ℕ) (n : Node) (w : Wait) (cs : List (Call ℕ)) (n�
   pub made : Made before call said after
   pub goes-on : Runs (after .node) (after .wait) later n′ w′
   pub place : ℕ
-  pub moment : Moment ℕ
-  pub at : At (moments ipv4 call (seen before)) place moment
-  pub left : Left ipv4 a moment
-  pub cause : Cause ipv4 a call (seen before) place (M.numbered ipv4 a (moment .before))
+  pub moment : Moment Addr
+  pub at : At (moments here call (seen before)) place moment
+  pub left : Left here a moment
+  pub cause : Cause here a call (seen before) place (M.numbered here a (moment .before))
   -- it did not come back: neither at a later moment of that call nor at one of a later call
-  pub out : Absent ipv4 a (drop (suc place) (moments ipv4 call (seen before)) ++ trace ipv4 later (seen after))
+  pub out : Absent here a (drop (suc place) (moments here call (seen before)) ++ trace here later (seen after))
 
 -- ---- the parts of a run
-pub record Split (n : Node) (w : Wait) (earlier : List (Call ℕ)) (c : Call ℕ) (later : List (Call ℕ)) (n′ : Node) (w′ : Wait) : Type 0 where
+pub record Split (n : Node) (w : Wait) (earlier : List (Call Addr)) (c : Call Addr) (later : List (Call Addr)) (n′ : Node) (w′ : Wait) : Type 0 where
   pub before : Held
   pub said : Said
   pub after : Held
@@ -83,129 +83,129 @@ pub record Split (n : Node) (w : Wait) (earlier : List (Call ℕ)) (c : Call ℕ
   pub made : Made before c said after
   pub goes-on : Runs (after .node) (after .wait) later n′ w′
 
-split : (earlier : List (Call ℕ)) (c : Call ℕ) (later : List (Call ℕ)) {n n′ : Node} {w w′ : Wait} → Runs n w (earlier ++ (c ∷ later)) n′ w′ → Split n w earlier c later n′ w′
+split : (earlier : List (Call Addr)) (c : Call Addr) (later : List (Call Addr)) {n n′ : Node} {w w′ : Wait} → Runs n w (earlier ++ (c ∷ later)) n′ w′ → Split n w earlier c later n′ w′
 split [] c later (makes h _ s h′ m rest) = record { before = h; said = s; after = h′; reached = rests (h .node) (h .wait); made = m; goes-on = rest }
 split (x ∷ earlier) c later (makes h _ s h′ m rest) =
     let v = split earlier c later rest in
     record { before = v .before; said = v .said; after = v .after; reached = makes h x s h′ m (v .reached); made = v .made; goes-on = v .goes-on }
 
 -- creation gave a node: it is the one of the rules
-created-node : (settings : Settings) (own number : ℕ) (r : Answer) (c : calls.Created ℕ) → r ≡ createdOf c → Accepted r → c ≡ calls.created (storedView (r .node))
+created-node : (settings : Settings) (own : Addr) (number : ℕ) (r : Answer) (c : calls.Created Addr) → r ≡ createdOf c → Accepted r → c ≡ calls.created (storedView (r .node))
 unfolding createdOf
 created-node settings own number r (calls.created s) e said = ap calls.created (sym ((λ i. storedView (e i .node)) ∙ stored-unstored s))
 created-node settings own number r (calls.notCreated x) e said = done-apart (sym said ∙ (λ i. e i .reply))
 
-targets-are : (ms : List (W.Message ℕ)) → map (λ (l : Letter). l .target) (map fromMessage ms) ≡ targets ms
+targets-are : (ms : List (W.Message Addr)) → map (λ (l : Letter). l .target) (map fromMessage ms) ≡ targets ms
 targets-are [] = refl
 targets-are (m ∷ ms) = ap (λ (l : List ℕ). m .target ∷ l) (targets-are ms)
 
 -- what is known of a call by the rules, as the program sees it
-account : (a own : ℕ) (t : Tally) (h : Held) (c : Call ℕ) (s : Said) (h′ : Held) (w : World ℕ) → w ≡ seen h → Made h c s h′ → Known ipv4 a own t c w → Account a own t h c s h′ (moments ipv4 c w)
+account : (a own : Addr) (t : Tally) (h : Held) (c : Call Addr) (s : Said) (h′ : Held) (w : World Addr) → w ≡ seen h → Made h c s h′ → Known here a own t c w → Account a own t h c s h′ (moments here c w)
 account a own t h c s h′ w e m k =
     let v = made-is h c s h′ m in
     let start : M.loaded (w .node) ≡ viewNode (h .node) = (λ i. M.loaded (e i .node)) ∙ loaded-view (h .node) in
-    let end : M.loaded (outcome ipv4 c w .outcome .node) ≡ viewNode (h′ .node) = (λ i. M.loaded (outcome ipv4 c (e i) .outcome .node)) ∙ sym (λ i. M.loaded (v .world i .node)) ∙ loaded-view (h′ .node) in
-    let said : saidBy (moments ipv4 c w) ≡ outcome ipv4 c (seen h) .outcome .events = k .tells .says ∙ (λ i. outcome ipv4 c (e i) .outcome .events) in
-    let waits : outcome ipv4 c w .wait ≡ toWait (h′ .wait) = (λ i. outcome ipv4 c (e i) .wait) ∙ sym (λ i. v .world i .wait) in
-    let reply : outcome ipv4 c w .outcome .reply ≡ s .reply = (λ i. outcome ipv4 c (e i) .outcome .reply) ∙ sym (v .reply) in
+    let end : M.loaded (outcome here c w .outcome .node) ≡ viewNode (h′ .node) = (λ i. M.loaded (outcome here c (e i) .outcome .node)) ∙ sym (λ i. M.loaded (v .world i .node)) ∙ loaded-view (h′ .node) in
+    let said : saidBy (moments here c w) ≡ outcome here c (seen h) .outcome .events = k .tells .says ∙ (λ i. outcome here c (e i) .outcome .events) in
+    let waits : outcome here c w .wait ≡ toWait (h′ .wait) = (λ i. outcome here c (e i) .wait) ∙ sym (λ i. v .world i .wait) in
+    let reply : outcome here c w .outcome .reply ≡ s .reply = (λ i. outcome here c (e i) .outcome .reply) ∙ sym (v .reply) in
     record {
-      leads = subst (λ (x : M.Node ℕ). Leads x (moments ipv4 c w) (viewNode (h′ .node))) start (subst (λ (x : M.Node ℕ). Leads (M.loaded (w .node)) (moments ipv4 c w) x) end (k .tells .leads));
-      events = v .events ∙ ap (λ (l : List (W.Gossip ℕ)). rowAfter l (h .events)) (sym said);
+      leads = subst (λ (x : M.Node Addr). Leads x (moments here c w) (viewNode (h′ .node))) start (subst (λ (x : M.Node Addr). Leads (M.loaded (w .node)) (moments here c w) x) end (k .tells .leads));
+      events = v .events ∙ ap (λ (l : List (W.Gossip Addr)). rowAfter l (h .events)) (sym said);
       reported = v .reported ∙ ap length (sym said);
-      asks = k .tells .asks ∙ (λ i. askedBy ipv4 (reply i) (asked ipv4 c (e i) (waits i .state)));
+      asks = k .tells .asks ∙ (λ i. askedBy here (reply i) (asked here c (e i) (waits i .state)));
       fine = k .fine;
       pings = λ now ds lent b n q p o.
-          ap (map (λ (l : Letter). l .target)) (v .letters) ∙ targets-are (outcome ipv4 c (seen h) .outcome .messages)
-          ∙ ap (λ (x : World ℕ). targets (outcome ipv4 c x .outcome .messages)) (sym e)
-          ∙ k .pings now ds lent b n q (ap (λ (x : World ℕ). x .wait .state) e ∙ p) (ap (λ (x : W.Wait ℕ). x .state) waits ∙ o);
+          ap (map (λ (l : Letter). l .target)) (v .letters) ∙ targets-are (outcome here c (seen h) .outcome .messages)
+          ∙ ap (λ (x : World Addr). targets (outcome here c x .outcome .messages)) (sym e)
+          ∙ k .pings now ds lent b n q (ap (λ (x : World Addr). x .wait .state) e ∙ p) (ap (λ (x : W.Wait Addr). x .state) waits ∙ o);
     }
 
-module _ (settings : Settings) (own number tick : ℕ) (r : Answer) (met : Creates settings own number r) (accepted : Accepted r)
-    (cs : List (Call ℕ)) (node : Node) (wait : Wait) (runs : Runs (r .node) (freshWait tick) cs node wait) (a : ℕ) where
+module _ (settings : Settings) (own : Addr) (number tick : ℕ) (r : Answer) (met : Creates settings own number r) (accepted : Accepted r)
+    (cs : List (Call Addr)) (node : Node) (wait : Wait) (runs : Runs (r .node) (freshWait tick) cs node wait) (a : Addr) where
   -- the replay, and the ledger: of creation's inputs and the calls, and neither looks at what the program was answered
-  abbrev pub last : World ℕ
-  last = run ipv4 cs (start ipv4 settings own number tick)
+  abbrev pub last : World Addr
+  last = run here cs (start here settings own number tick)
 
   abbrev pub ledger : Tally
-  ledger = tally ipv4 a (trace ipv4 cs (start ipv4 settings own number tick)) (begun ipv4 a own)
+  ledger = tally here a (trace here cs (start here settings own number tick)) (begun here a own)
 
-  begins : calls.create ipv4 settings own number ≡ calls.created (storedView (r .node))
+  begins : calls.create here settings own number ≡ calls.created (storedView (r .node))
   begins = created-node settings own number r _ (met .answer) accepted
 
   -- the replay ends at the program's own node and wait record
   pub replayed : last ≡ world node wait
   replayed =
-      let fresh = model.created-is ipv4 settings own number (storedView (r .node)) begins .0 in
-      ap (λ (s : M.Stored ℕ). run ipv4 cs (record { node = s; wait = toWait (freshWait tick) })) (sym fresh) ∙ runs-is runs
+      let fresh = model.created-is here settings own number (storedView (r .node)) begins .0 in
+      ap (λ (s : M.Stored Addr). run here cs (record { node = s; wait = toWait (freshWait tick) })) (sym fresh) ∙ runs-is runs
 
   ends : M.loaded (last .node) ≡ viewNode node
   ends = (λ i. M.loaded (replayed i .node)) ∙ loaded-view node
 
   -- "an address's entries less departures is 1 where it is listed and 0 where not"
-  pub counted : ledger .entries ≡ ledger .departures + one (M.lists ipv4 a (viewNode node))
-  counted = rw (sym ends) (model.counted ipv4 ipv4-lawful settings own number tick _ begins cs a)
+  pub counted : ledger .entries ≡ ledger .departures + one (M.lists here a (viewNode node))
+  counted = rw (sym ends) (model.counted here here-lawful settings own number tick _ begins cs a)
 
   -- "the probing order holds each listed address once and nothing more"
-  pub ordered : occurs (ipv4 .same) a (viewNode node .members .order) ≡ one (M.lists ipv4 a (viewNode node))
-  ordered = rw (sym ends) (model.ordered ipv4 ipv4-lawful settings own number tick _ begins cs a)
+  pub ordered : occurs (here .same) a (viewNode node .members .order) ≡ one (M.lists here a (viewNode node))
+  ordered = rw (sym ends) (model.ordered here here-lawful settings own number tick _ begins cs a)
 
   -- no number reported for a listed peer since its last entry, or the last ping-request step while listed, is above the held one
-  pub reported-held : M.lists ipv4 a (viewNode node) ≡ true → ipv4 .same own a ≡ false → ledger .top ≤ M.numbered ipv4 a (viewNode node)
-  reported-held = rw (sym ends) (model.reported-held ipv4 ipv4-lawful settings own number tick _ begins cs a)
+  pub reported-held : M.lists here a (viewNode node) ≡ true → here .same own a ≡ false → ledger .top ≤ M.numbered here a (viewNode node)
+  reported-held = rw (sym ends) (model.reported-held here here-lawful settings own number tick _ begins cs a)
 
   -- every node of a run is sound, so refusal 2 never meets one
-  pub stays-sound : sound ipv4 (storedView node) ≡ true
-  stays-sound = ap (λ (w : World ℕ). sound ipv4 (w .node)) (sym replayed) ∙ model.stays-sound ipv4 ipv4-lawful settings own number tick _ begins cs a
+  pub stays-sound : sound here (storedView node) ≡ true
+  stays-sound = ap (λ (w : World Addr). sound here (w .node)) (sym replayed) ∙ model.stays-sound here here-lawful settings own number tick _ begins cs a
 
   -- "Timers stand in starting order": those of the program's node, in the order in which the run's declarations started them
-  pub in-starting-order : Within (viewNode node .timers) (started ipv4 cs (start ipv4 settings own number tick))
-  in-starting-order = rw (sym ends) (timers.in-starting-order ipv4 ipv4-lawful settings own number tick _ begins cs)
+  pub in-starting-order : Within (viewNode node .timers) (started here cs (start here settings own number tick))
+  in-starting-order = rw (sym ends) (timers.in-starting-order here here-lawful settings own number tick _ begins cs)
 
-  known : (c : Call ℕ) → Known ipv4 a own ledger c (world node wait)
-  known c = subst (Known ipv4 a own ledger c) replayed (model.known ipv4 ipv4-lawful settings own number tick _ begins cs a c)
+  known : (c : Call Addr) → Known here a own ledger c (world node wait)
+  known c = subst (Known here a own ledger c) replayed (model.known here here-lawful settings own number tick _ begins cs a c)
 
   -- the next call of the run, on whatever rows the host lends
-  module _ (gossip events : List Gossip) (c : Call ℕ) (s : Said) (h′ : Held) (made : Made (record { node = node; wait = wait; gossip = gossip; events = events }) c s h′) where
+  module _ (gossip events : List Gossip) (c : Call Addr) (s : Said) (h′ : Held) (made : Made (record { node = node; wait = wait; gossip = gossip; events = events }) c s h′) where
     abbrev before : Held
     before = record { node = node; wait = wait; gossip = gossip; events = events }
 
     -- its moments, by the rules on the replay
-    abbrev pub next : List (Moment ℕ)
-    next = moments ipv4 c last
+    abbrev pub next : List (Moment Addr)
+    next = moments here c last
 
     pub accounted : Account a own ledger before c s h′ next
-    accounted = account a own ledger before c s h′ last replayed made (model.known ipv4 ipv4-lawful settings own number tick _ begins cs a c)
+    accounted = account a own ledger before c s h′ last replayed made (model.known here here-lawful settings own number tick _ begins cs a c)
 
     -- "while listed, its number never falls save at the ping-request step": from the program's node before the call to the one after it
-    pub never-falls : StaysListed ipv4 a next → NotAsked ipv4 a next → M.lists ipv4 a (viewNode node) ≡ true → M.numbered ipv4 a (viewNode node) ≤ M.numbered ipv4 a (viewNode (h′ .node))
-    never-falls stays quiet l = rises-along ipv4 a own (viewNode node) (viewNode (h′ .node)) next ledger (accounted .leads) (accounted .fine) stays quiet l
+    pub never-falls : StaysListed here a next → NotAsked here a next → M.lists here a (viewNode node) ≡ true → M.numbered here a (viewNode node) ≤ M.numbered here a (viewNode (h′ .node))
+    never-falls stays quiet l = rises-along here a own (viewNode node) (viewNode (h′ .node)) next ledger (accounted .leads) (accounted .fine) stays quiet l
 
     -- "a death notice that removes a peer carries a number no lower than any reported for it since it entered or was written back": record i of a message
-    pub bound : (action : W.Action ℕ) (gs : List (W.Gossip ℕ)) (ds : List ℕ) (lent : Room) (i : ℕ) (m : Moment ℕ) (from n : ℕ) → c ≡ Receive action gs ds lent → At next i m → At gs i (record { event = Deceased from a n })
-        → ipv4 .same own a ≡ false → Left ipv4 a m → tally ipv4 a (take i next) ledger .top ≤ n
-    bound = bounded ipv4 a own ledger c last (model.known ipv4 ipv4-lawful settings own number tick _ begins cs a c)
+    pub bound : (action : W.Action Addr) (gs : List (W.Gossip Addr)) (ds : List ℕ) (lent : Room) (i : ℕ) (m : Moment Addr) (from : Addr) (n : ℕ) → c ≡ Receive action gs ds lent → At next i m → At gs i (record { event = Deceased from a n })
+        → here .same own a ≡ false → Left here a m → tally here a (take i next) ledger .top ≤ n
+    bound = bounded here a own ledger c last (model.known here here-lawful settings own number tick _ begins cs a c)
 
     -- every moment at which the address left has its cause: record i of the message, or the timer that the call ended
-    pub caused : (i : ℕ) (m : Moment ℕ) → At next i m → Left ipv4 a m → Cause ipv4 a c (world node wait) i (M.numbered ipv4 a (m .before))
-    caused i m p l = auditor.caused ipv4 a ipv4-lawful own ledger c (world node wait) (known c) i m (subst (λ (w : World ℕ). At (moments ipv4 c w) i m) replayed p) l
+    pub caused : (i : ℕ) (m : Moment Addr) → At next i m → Left here a m → Cause here a c (world node wait) i (M.numbered here a (m .before))
+    caused i m p l = auditor.caused here a here-lawful own ledger c (world node wait) (known c) i m (subst (λ (w : World Addr). At (moments here c w) i m) replayed p) l
 
     -- "can an older message do it?" No: at a record whose number is below the held one the address stays
-    pub no-older-message : (action : W.Action ℕ) (gs : List (W.Gossip ℕ)) (ds : List ℕ) (lent : Room) (i : ℕ) (m : Moment ℕ) (from n : ℕ) → c ≡ Receive action gs ds lent → At next i m → At gs i (record { event = Deceased from a n })
-        → n < M.numbered ipv4 a (m .before) → M.lists ipv4 a (m .before) ≡ true → M.lists ipv4 a (m .after) ≡ true
-    no-older-message = auditor.spared ipv4 a ipv4-lawful own ledger c last (model.known ipv4 ipv4-lawful settings own number tick _ begins cs a c)
+    pub no-older-message : (action : W.Action Addr) (gs : List (W.Gossip Addr)) (ds : List ℕ) (lent : Room) (i : ℕ) (m : Moment Addr) (from : Addr) (n : ℕ) → c ≡ Receive action gs ds lent → At next i m → At gs i (record { event = Deceased from a n })
+        → n < M.numbered here a (m .before) → M.lists here a (m .before) ≡ true → M.lists here a (m .after) ≡ true
+    no-older-message = auditor.spared here a here-lawful own ledger c last (model.known here here-lawful settings own number tick _ begins cs a c)
 
   -- "for any controller that has left a list, which message or time-out took it out?" The address is listed in this node, and no longer in the one after some more calls
-  pub which-took-it-out : (more : List (Call ℕ)) (node′ : Node) (wait′ : Wait) → Runs node wait more node′ wait′ → M.lists ipv4 a (viewNode node) ≡ true → M.lists ipv4 a (viewNode node′) ≡ false
+  pub which-took-it-out : (more : List (Call Addr)) (node′ : Node) (wait′ : Wait) → Runs node wait more node′ wait′ → M.lists here a (viewNode node) ≡ true → M.lists here a (viewNode node′) ≡ false
       → Departure a node wait more node′ wait′
-  which-took-it-out more node′ wait′ rest p q = found (auditor.which-took-it-out ipv4 ipv4-lawful settings own number tick _ begins cs a more (rw ends p) (rw ended q))
+  which-took-it-out more node′ wait′ rest p q = found (auditor.which-took-it-out here here-lawful settings own number tick _ begins cs a more (rw ends p) (rw ended q))
     where
-      ended : M.loaded (run ipv4 more last .node) ≡ viewNode node′
-      ended = (λ i. M.loaded (run ipv4 more (replayed i) .node)) ∙ (λ i. M.loaded (runs-is rest i .node)) ∙ loaded-view node′
+      ended : M.loaded (run here more last .node) ≡ viewNode node′
+      ended = (λ i. M.loaded (run here more (replayed i) .node)) ∙ (λ i. M.loaded (runs-is rest i .node)) ∙ loaded-view node′
 
-      found : TakenOut ipv4 a more last → Departure a node wait more node′ wait′
+      found : TakenOut here a more last → Departure a node wait more node′ wait′
       found t =
-          let v = split (t .earlier) (t .call) (t .later) (subst (λ (l : List (Call ℕ)). Runs node wait l node′ wait′) (t .splits) rest) in
-          let there : run ipv4 (t .earlier) last ≡ seen (v .before) = ap (run ipv4 (t .earlier)) replayed ∙ runs-is (v .reached) in
+          let v = split (t .earlier) (t .call) (t .later) (subst (λ (l : List (Call Addr)). Runs node wait l node′ wait′) (t .splits) rest) in
+          let there : run here (t .earlier) last ≡ seen (v .before) = ap (run here (t .earlier)) replayed ∙ runs-is (v .reached) in
           record {
             earlier = t .earlier;
             call = t .call;
@@ -219,9 +219,9 @@ module _ (settings : Settings) (own number tick : ℕ) (r : Answer) (met : Creat
             goes-on = v .goes-on;
             place = t .place;
             moment = t .moment;
-            at = subst (λ (w : World ℕ). At (moments ipv4 (t .call) w) (t .place) (t .moment)) there (t .at);
+            at = subst (λ (w : World Addr). At (moments here (t .call) w) (t .place) (t .moment)) there (t .at);
             left = t .left;
-            cause = subst (λ (w : World ℕ). Cause ipv4 a (t .call) w (t .place) (M.numbered ipv4 a (t .moment .before))) there (t .cause);
-            out = subst (λ (w : World ℕ). Absent ipv4 a (drop (suc (t .place)) (moments ipv4 (t .call) (seen (v .before))) ++ trace ipv4 (t .later) w)) (sym (made-is (v .before) (t .call) (v .said) (v .after) (v .made) .world))
-                (subst (λ (w : World ℕ). Absent ipv4 a (drop (suc (t .place)) (moments ipv4 (t .call) w) ++ trace ipv4 (t .later) (worldOf ipv4 (outcome ipv4 (t .call) w)))) there (t .out));
+            cause = subst (λ (w : World Addr). Cause here a (t .call) w (t .place) (M.numbered here a (t .moment .before))) there (t .cause);
+            out = subst (λ (w : World Addr). Absent here a (drop (suc (t .place)) (moments here (t .call) (seen (v .before))) ++ trace here (t .later) w)) (sym (made-is (v .before) (t .call) (v .said) (v .after) (v .made) .world))
+                (subst (λ (w : World Addr). Absent here a (drop (suc (t .place)) (moments here (t .call) w) ++ trace here (t .later) (worldOf here (outcome here (t .call) w)))) there (t .out));
           }

@@ -12,7 +12,7 @@ use Rattle.model.specs.declared.Refusal.{Refusal}
 use Rattle.model.specs.declared.Settings.{Settings}
 use Rattle.model.specs.Answers.{numberOf}
 use Rattle.model.specs.Rows.{pick}
-use Rattle.model.specs.IPv4.{ipv4}
+use Rattle.address.specs.Here.{Addr, here}
 use Rattle.model.specs.Words as W
 use Rattle.model.specs.Node as M
 use Rattle.model.specs.Calls as calls
@@ -55,26 +55,26 @@ only-tests number refuse says go zero ts told =
       gives = as-told told ((λ e. after .0 e .0), (λ p. after .1 (p, zero)));
     }
 
-pub create-exactly : (settings : Settings) (own number : ℕ) (r : Answer) → Creates settings own number r → ByTests (replyNumber (r .reply)) (calls.createTests ipv4 settings own)
+pub create-exactly : (settings : Settings) (own : Addr) (number : ℕ) (r : Answer) → Creates settings own number r → ByTests (replyNumber (r .reply)) (calls.createTests here settings own)
 unfolding calls.create createdOf
 create-exactly settings own number r met =
-    only-tests (λ (c : calls.Created ℕ). replyNumber (createdOf c .reply)) calls.notCreated (λ y. refl) _ refl (calls.createTests ipv4 settings own) (λ i. replyNumber (met .answer i .reply))
+    only-tests (λ (c : calls.Created Addr). replyNumber (createdOf c .reply)) calls.notCreated (λ y. refl) _ refl (calls.createTests here settings own) (λ i. replyNumber (met .answer i .reply))
 
 -- what is found of an address, or at a place, has the number 0
-found : (u : Bool) (a : ℕ) (state : State) (number : ℕ) → lookupNumber (pick u (look.Listed a state number) look.NotListed) ≡ 0
+found : (u : Bool) (a : Addr) (state : State) (number : ℕ) → lookupNumber (pick u (look.Listed a state number) look.NotListed) ≡ 0
 found true a state number = refl
 found false a state number = refl
 
-pub look-up-exactly : (node : Node) (a : ℕ) (r : Lookup) → r ≡ lookUp node a → ByTests (lookupNumber r) (nodeTest node ∷ addressTest a ∷ [])
+pub look-up-exactly : (node : Node) (a : Addr) (r : Lookup) → r ≡ lookUp node a → ByTests (lookupNumber r) (nodeTest node ∷ addressTest a ∷ [])
 unfolding lookUp
 look-up-exactly node a r met =
-    only-tests lookupNumber look.Refused (λ y. refl) _ (found (M.lists ipv4 a (handed node)) a (M.stateOf ipv4 a (handed node)) (M.numbered ipv4 a (handed node))) (nodeTest node ∷ addressTest a ∷ []) (ap lookupNumber met)
+    only-tests lookupNumber look.Refused (λ y. refl) _ (found (M.lists here a (handed node)) a (M.stateOf here a (handed node)) (M.numbered here a (handed node))) (nodeTest node ∷ addressTest a ∷ []) (ap lookupNumber met)
 
 pub member-at-exactly : (node : Node) (place : ℕ) (r : Lookup) → r ≡ memberAt node place → ByTests (lookupNumber r) (nodeTest node ∷ [])
 unfolding memberAt
 member-at-exactly node place r met =
     let table = handed node .members .table in
-    let m = getD table place (W.noMember ipv4) in
+    let m = getD table place (W.noMember here) in
     only-tests lookupNumber look.Refused (λ y. refl) _ (found (ltb place (length table)) (m .addr) (m .state) (m .number)) (nodeTest node ∷ []) (ap lookupNumber met)
 
 pub how-many-exactly : (node : Node) (r : Tally) → r ≡ howMany node → ByTests (tallyNumber r) (nodeTest node ∷ [])
@@ -83,24 +83,24 @@ how-many-exactly node r met = only-tests tallyNumber tally.Refused (λ y. refl) 
 
 -- ---- the calls that change a node: 6 to 10, "already" and "not due" are in Table.antt
 module _ (x : Refusal) (low : numberOf x < 6) where
-  pub add-exactly : (node : Node) (a number : ℕ) (draws : List ℕ) (r : Answer) → Adds node a number draws r → (replyNumber (r .reply) ≡ numberOf x) ↔ FirstFails x (calls.addTests ipv4 (storedView node) a)
+  pub add-exactly : (node : Node) (a : Addr) (number : ℕ) (draws : List ℕ) (r : Answer) → Adds node a number draws r → (replyNumber (r .reply) ≡ numberOf x) ↔ FirstFails x (calls.addTests here (storedView node) a)
   unfolding answerOf
-  add-exactly node a number draws r met = as-told (λ i. replyNumber (met .answer i .reply)) (add-table ipv4 (storedView node) a number draws .tests x low)
+  add-exactly node a number draws r met = as-told (λ i. replyNumber (met .answer i .reply)) (add-table here (storedView node) a number draws .tests x low)
 
   pub receive-exactly : (node : Node) (action : Action) (rows : List Gossip) (draws : List ℕ) (gossip events : List Gossip) (r : Outcome) (g e : List Gossip) → Receives node action rows draws gossip events r g e
-      → (replyNumber (r .answer .reply) ≡ numberOf x) ↔ FirstFails x (calls.messageTests ipv4 (storedView node) (toAction action) (map toGossip rows) (room gossip events))
+      → (replyNumber (r .answer .reply) ≡ numberOf x) ↔ FirstFails x (calls.messageTests here (storedView node) (toAction action) (map toGossip rows) (room gossip events))
   unfolding outcomeOf answerOf
   receive-exactly node action rows draws gossip events r g e met =
-      as-told (λ i. replyNumber (met .ends .answer i .answer .reply)) (message-table ipv4 (storedView node) (toAction action) (map toGossip rows) draws (room gossip events) .tests x low)
+      as-told (λ i. replyNumber (met .ends .answer i .answer .reply)) (message-table here (storedView node) (toAction action) (map toGossip rows) draws (room gossip events) .tests x low)
 
   pub step-exactly : (node : Node) (wait : Wait) (tick : ℕ) (draws : List ℕ) (gossip events : List Gossip) (r : Outcome) (w : Wait) (g e : List Gossip) → Steps node wait tick draws gossip events r w g e
-      → (replyNumber (r .answer .reply) ≡ numberOf x) ↔ FirstFails x (calls.stepTests ipv4 (storedView node) (toWait wait) (room gossip events))
+      → (replyNumber (r .answer .reply) ≡ numberOf x) ↔ FirstFails x (calls.stepTests here (storedView node) (toWait wait) (room gossip events))
   unfolding outcomeOf answerOf
   step-exactly node wait tick draws gossip events r w g e met =
-      as-told (λ i. replyNumber (met .ends .answer i .answer .reply)) (step-table ipv4 (storedView node) (toWait wait) tick draws (room gossip events) .tests x low)
+      as-told (λ i. replyNumber (met .ends .answer i .answer .reply)) (step-table here (storedView node) (toWait wait) tick draws (room gossip events) .tests x low)
 
   pub end-timer-exactly : (node : Node) (tick : ℕ) (events : List Gossip) (r : Outcome) (e : List Gossip) → EndsTimer node tick events r e
-      → (replyNumber (r .answer .reply) ≡ numberOf x) ↔ FirstFails x (calls.timerTests ipv4 (storedView node) (record { gossip = 0; events = length events }))
+      → (replyNumber (r .answer .reply) ≡ numberOf x) ↔ FirstFails x (calls.timerTests here (storedView node) (record { gossip = 0; events = length events }))
   unfolding outcomeOf answerOf
   end-timer-exactly node tick events r e met =
-      as-told (λ i. replyNumber (met .answer i .answer .reply)) (timer-table ipv4 (storedView node) tick (record { gossip = 0; events = length events }) .tests x low)
+      as-told (λ i. replyNumber (met .answer i .answer .reply)) (timer-table here (storedView node) tick (record { gossip = 0; events = length events }) .tests x low)

@@ -6,7 +6,7 @@ use mathlib.Core.List.{List, [], _∷_, map}
 use Prim.Native.Nat.{ℕ}
 use lib.ListN.{length}
 use Rattle.model.specs.declared.Settings.{Settings}
-use Rattle.model.specs.IPv4.{ipv4}
+use Rattle.address.specs.Here.{Addr, here}
 use Rattle.model.specs.Calls as calls
 use Rattle.model.specs.Sound.{inRange}
 use Rattle.history.specs.Worlds.{first-cases}
@@ -23,17 +23,17 @@ use Rattle.swim.specs.Contracts.{Creates, room, outcomeOf, rowAfter, addOf, mes
 use Rattle.promises.specs.Made.{Held, Said, Accepted, Made, adds, receives, steps, endsTimer}
 use Rattle.promises.specs.Runs.{Runs, rests, makes}
 
-pub create-exists : (settings : Settings) (own number : ℕ) → (r : Answer) × Creates settings own number r
-create-exists settings own number = (createdOf (calls.create ipv4 settings own number), record { answer = refl })
+pub create-exists : (settings : Settings) (own : Addr) (number : ℕ) → (r : Answer) × Creates settings own number r
+create-exists settings own number = (createdOf (calls.create here settings own number), record { answer = refl })
 
 -- settings in range and an own address in range give a node: what the theorems over runs start from is met
-pub begins-exist : (settings : Settings) (own number : ℕ) → inRange settings ≡ true → ipv4 .valid own ≡ true → (r : Answer) × Creates settings own number r × Accepted r
+pub begins-exist : (settings : Settings) (own : Addr) (number : ℕ) → inRange settings ≡ true → here .valid own ≡ true → (r : Answer) × Creates settings own number r × Accepted r
 unfolding calls.create createdOf
-begins-exist settings own number s v = (createdOf (calls.create ipv4 settings own number), record { answer = refl }, rw (v, s) refl)
+begins-exist settings own number s v = (createdOf (calls.create here settings own number), record { answer = refl }, rw (v, s) refl)
 
 -- a call as a host makes it
 pub data Ask : Type 0 where
-  add : ℕ → ℕ → List ℕ → Ask
+  add : Addr → ℕ → List ℕ → Ask
   receive : Action → List Gossip → List ℕ → Ask
   step : ℕ → List ℕ → Ask
   endTimer : ℕ → Ask
@@ -44,16 +44,16 @@ pub record Turn : Type 0 where
   pub gossip : List Gossip
   pub events : List Gossip
 
-abbrev pub callBy : Ask → List Gossip → List Gossip → Call ℕ
+abbrev pub callBy : Ask → List Gossip → List Gossip → Call Addr
 callBy (add a n draws) gossip events = Add a n draws
 callBy (receive action rows draws) gossip events = Receive (toAction action) (map toGossip rows) draws (room gossip events)
 callBy (step tick draws) gossip events = Step tick draws (room gossip events)
 callBy (endTimer tick) gossip events = Timer tick (record { gossip = 0; events = length events })
 
-abbrev pub callOf : Turn → Call ℕ
+abbrev pub callOf : Turn → Call Addr
 callOf t = callBy (t .ask) (t .gossip) (t .events)
 
-pub record Result (h : Held) (c : Call ℕ) : Type 0 where
+pub record Result (h : Held) (c : Call Addr) : Type 0 where
   pub said : Said
   pub held : Held
   pub made : Made h c said held
@@ -84,7 +84,7 @@ exists h (endTimer tick) =
 abbrev lends : Node → Wait → Turn → Held
 lends n w t = record { node = n; wait = w; gossip = t .gossip; events = t .events }
 
-pub record Ran (n : Node) (w : Wait) (cs : List (Call ℕ)) : Type 0 where
+pub record Ran (n : Node) (w : Wait) (cs : List (Call Addr)) : Type 0 where
   pub node : Node
   pub wait : Wait
   pub runs : Runs n w cs node wait

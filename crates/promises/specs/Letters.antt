@@ -5,6 +5,7 @@ use mathlib.Core.List.{List, [], _∷_, _++_, map}
 use Prim.Native.Nat.{ℕ, _+_}
 use lib.ListN.{length, take, drop, length-map, length-append}
 use lib.Seq.{take-at, drop-at}
+use Rattle.address.specs.Here.{Addr}
 use Rattle.model.specs.Words as W
 use Rattle.model.specs.Calls as calls
 use Rattle.types.specs.declared.Gossip.{Gossip}
@@ -24,25 +25,25 @@ unfoldable pub total : List ℕ → ℕ
 total [] = 0
 total (n ∷ ns) = n + total ns
 
-counts-are : (ms : List (W.Message ℕ)) → map (λ (l : Letter). l .count) (map fromMessage ms) ≡ calls.counts ms
+counts-are : (ms : List (W.Message Addr)) → map (λ (l : Letter). l .count) (map fromMessage ms) ≡ calls.counts ms
 counts-are [] = refl
 counts-are (m ∷ ms) = ap (λ (ns : List ℕ). length (m .gossip) ∷ ns) (counts-are ms)
 
-counts-total : (ms : List (W.Message ℕ)) → total (calls.counts ms) ≡ length (calls.packed ms)
+counts-total : (ms : List (W.Message Addr)) → total (calls.counts ms) ≡ length (calls.packed ms)
 unfolding total
 counts-total [] = refl
 counts-total (m ∷ ms) = ap (λ (n : ℕ). length (m .gossip) + n) (counts-total ms) ∙ sym (length-append (m .gossip) (calls.packed ms))
 
-row-is : (gs : List (W.Gossip ℕ)) (lent : List Gossip) → rowAfter gs lent ≡ map fromGossip gs ++ drop (length gs) lent
+row-is : (gs : List (W.Gossip Addr)) (lent : List Gossip) → rowAfter gs lent ≡ map fromGossip gs ++ drop (length gs) lent
 row-is gs lent = sym (row-after 0 gs lent) ∙ ap (λ (l : List Gossip). l ++ drop (length gs) lent) (take-at (map fromGossip gs) _ (length gs) (length-map gs fromGossip))
 
 -- "the gossip of several messages is packed in sending order, each with its count; places past the last written stay as lent"
-pub record Written (ms : List (W.Message ℕ)) (a : Answer) (lent row : List Gossip) : Type 0 where
+pub record Written (ms : List (W.Message Addr)) (a : Answer) (lent row : List Gossip) : Type 0 where
   pub counts : countsOf a ≡ calls.counts ms
   pub records : take (total (countsOf a)) row ≡ map fromGossip (calls.packed ms)
   pub others : drop (total (countsOf a)) row ≡ drop (total (countsOf a)) lent
 
-pub written : (o : calls.Outcome ℕ) (gossip events : List Gossip) (r : Outcome) (g e : List Gossip) → Ends o gossip events r g e → Written (o .messages) (r .answer) gossip g
+pub written : (o : calls.Outcome Addr) (gossip events : List Gossip) (r : Outcome) (g e : List Gossip) → Ends o gossip events r g e → Written (o .messages) (r .answer) gossip g
 unfolding outcomeOf answerOf
 written o gossip events r g e met =
     let ms = o .messages in

@@ -4,6 +4,7 @@ use mathlib.Core.Path.{_≡_}
 use mathlib.Core.List.{List, map}
 use Prim.Native.Nat.{ℕ}
 use lib.ListN.{length, take}
+use Rattle.address.specs.Here.{Addr}
 use Rattle.model.specs.declared.Reply.{Reply}
 use Rattle.model.specs.declared.Reply.the-variants.{Done}
 use Rattle.history.specs.Histories.{Call, Add, Receive, Step, Timer}
@@ -39,8 +40,8 @@ abbrev pub Accepted : Answer → Type 0
 Accepted r = r .reply ≡ Done 0
 
 -- a row that a call has no use for isn't lent, and so is as it was
-pub data Made (h : Held) : Call ℕ → Said → Held → Type 0 where
-  adds : (a number : ℕ) (draws : List ℕ) (r : Answer) → Adds (h .node) a number draws r
+pub data Made (h : Held) : Call Addr → Said → Held → Type 0 where
+  adds : (a : Addr) (number : ℕ) (draws : List ℕ) (r : Answer) → Adds (h .node) a number draws r
       → Made h (Add a number draws) (record { reply = r .reply; letters = lettersOf r; reported = 0 }) (record { node = r .node; wait = h .wait; gossip = h .gossip; events = h .events })
   receives : (action : Action) (rows : List Gossip) (draws : List ℕ) (r : Outcome) (gossip events : List Gossip) → Receives (h .node) action rows draws (h .gossip) (h .events) r gossip events
       → Made h (Receive (toAction action) (map toGossip rows) draws (room (h .gossip) (h .events))) (record { reply = r .answer .reply; letters = lettersOf (r .answer); reported = r .reported }) (record { node = r .answer .node; wait = h .wait; gossip = gossip; events = events })

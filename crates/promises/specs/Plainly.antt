@@ -42,10 +42,10 @@ module _ {A : Type 0} (s : Node A) (ds : List ℕ) where
       only-if (passes p (fails p′ q)) = (leb-false _ _ p, empty-is ds p′)
 
 -- an ended timer
-pub end-full : {A : Type 0} (s : Node A) → FirstFails HeapFull (endStops s) ↔ (heap-places ≤ length (s .deceased))
+pub end-full : {A : Type 0} (s : Node A) → FirstFails HeapFull (endStops s) ↔ (heap-places ≤ length (s .disseminator .deceased))
 end-full s = (only-if, (λ h. fails (le-leb _ _ h) refl))
   where
-    only-if : FirstFails HeapFull (endStops s) → heap-places ≤ length (s .deceased)
+    only-if : FirstFails HeapFull (endStops s) → heap-places ≤ length (s .disseminator .deceased)
     only-if (fails p q) = leb-true _ _ p
 
 -- a step that is due, by the state of the wait record

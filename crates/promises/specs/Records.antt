@@ -7,6 +7,7 @@ use Prim.Native.Nat.{ℕ, zero, suc, _<_}
 use native.Mathlib.Omega.{arith}
 use lib.ListN.{take, length-take}
 use lib.Seq.{take-take, getD-take}
+use Rattle.address.specs.Here.{here}
 use Rattle.model.specs.declared.Refusal.{Refusal}
 use Rattle.model.specs.declared.Refusal.the-variants.{NumberEnd, ListFull, DrawsShort, HeapFull}
 use Rattle.model.specs.Answers.{Answer, done, refused, andThen}

@@ -9,7 +9,7 @@ use Rattle.model.specs.declared.Refusal.{Refusal}
 use Rattle.model.specs.declared.Reply.{Reply}
 use Rattle.model.specs.declared.Reply.the-variants.{Done, Already, NotDue, Refused}
 use Rattle.model.specs.declared.Settings.{Settings}
-use Rattle.model.specs.IPv4.{ipv4}
+use Rattle.address.specs.Here.{Addr, here}
 use Rattle.model.specs.Calls as calls
 use Rattle.history.specs.Histories.{Call}
 use Rattle.types.specs.declared.Gossip.{Gossip}
@@ -36,7 +36,7 @@ unfolding rowAfter
 nothing-written lent = from-to-gossips lent
 
 -- what changes nothing by the rules changes nothing in rows
-module _ (n : Node) (z : Reply) (o : calls.Outcome ℕ) (same : o ≡ calls.unchanged z (storedView n)) where
+module _ (n : Node) (z : Reply) (o : calls.Outcome Addr) (same : o ≡ calls.unchanged z (storedView n)) where
   answer-back : answerOf o ≡ plainAnswer z n
   unfolding answerOf
   answer-back = ap answerOf same ∙ ap (plainAnswer z) (unstored-stored n)
@@ -53,34 +53,34 @@ module _ (n : Node) (z : Reply) (o : calls.Outcome ℕ) (same : o ≡ calls.unch
   )
 
 -- ---- the calls
-pub add-unkept : (node : Node) (a number : ℕ) (draws : List ℕ) (r : Answer) → Adds node a number draws r → NotDone (r .reply) → r ≡ plainAnswer (r .reply) node
+pub add-unkept : (node : Node) (a : Addr) (number : ℕ) (draws : List ℕ) (r : Answer) → Adds node a number draws r → NotDone (r .reply) → r ≡ plainAnswer (r .reply) node
 unfolding answerOf
 add-unkept node a number draws r met unkept =
-    met .answer ∙ answer-back node (r .reply) _ (add-table ipv4 (storedView node) a number draws .keeps (r .reply) unkept (sym (λ i. met .answer i .reply)))
+    met .answer ∙ answer-back node (r .reply) _ (add-table here (storedView node) a number draws .keeps (r .reply) unkept (sym (λ i. met .answer i .reply)))
 
 module _ (node : Node) (draws : List ℕ) (gossip events : List Gossip) (r : Outcome) (g e : List Gossip) (unkept : NotDone (r .answer .reply)) where
   pub receive-unkept : (action : Action) (rows : List Gossip) → Receives node action rows draws gossip events r g e → (r ≡ idleOutcome (r .answer .reply) node) × (g ≡ gossip) × (e ≡ events)
   unfolding outcomeOf answerOf
   receive-unkept action rows met =
       ends-back node (r .answer .reply) _
-      (message-table ipv4 (storedView node) (toAction action) (map toGossip rows) draws (room gossip events) .keeps (r .answer .reply) unkept (sym (λ i. met .ends .answer i .answer .reply)))
+      (message-table here (storedView node) (toAction action) (map toGossip rows) draws (room gossip events) .keeps (r .answer .reply) unkept (sym (λ i. met .ends .answer i .answer .reply)))
       gossip events r g e (met .ends)
 
   pub step-unkept : (wait w : Wait) (tick : ℕ) → Steps node wait tick draws gossip events r w g e → (r ≡ idleOutcome (r .answer .reply) node) × (w ≡ wait) × (g ≡ gossip) × (e ≡ events)
   unfolding outcomeOf answerOf
   step-unkept wait w tick met =
-      let same = step-table ipv4 (storedView node) (toWait wait) tick draws (room gossip events) .keeps (r .answer .reply) unkept (sym (λ i. met .ends .answer i .answer .reply)) in
+      let same = step-table here (storedView node) (toWait wait) tick draws (room gossip events) .keeps (r .answer .reply) unkept (sym (λ i. met .ends .answer i .answer .reply)) in
       let back = ends-back node (r .answer .reply) _ (λ i. same i .outcome) gossip events r g e (met .ends) in
       (back .0, met .waits ∙ (λ i. fromWait (same i .wait)) ∙ from-to-wait wait, back .1, back .2)
 
 pub end-timer-unkept : (node : Node) (tick : ℕ) (events : List Gossip) (r : Outcome) (e : List Gossip) → EndsTimer node tick events r e → NotDone (r .answer .reply) → (r ≡ idleOutcome (r .answer .reply) node) × (e ≡ events)
 unfolding outcomeOf answerOf
 end-timer-unkept node tick events r e met unkept =
-    let same = timer-table ipv4 (storedView node) tick (record { gossip = 0; events = length events }) .keeps (r .answer .reply) unkept (sym (λ i. met .answer i .answer .reply)) in
+    let same = timer-table here (storedView node) tick (record { gossip = 0; events = length events }) .keeps (r .answer .reply) unkept (sym (λ i. met .answer i .answer .reply)) in
     (met .answer ∙ outcome-back node (r .answer .reply) _ same, met .told ∙ (λ i. rowAfter (same i .events) events) ∙ nothing-written events)
 
 -- ---- all of them at once
-keeps : (h : Held) (c : Call ℕ) (s : Said) (h′ : Held) → Made h c s h′ → NotDone (s .reply) → h′ ≡ h
+keeps : (h : Held) (c : Call Addr) (s : Said) (h′ : Held) → Made h c s h′ → NotDone (s .reply) → h′ ≡ h
 keeps h _ _ _ (adds a number draws r met) unkept =
     let same = add-unkept (h .node) a number draws r met unkept in
     λ i. record { node = same i .node; wait = h .wait; gossip = h .gossip; events = h .events }
@@ -101,14 +101,14 @@ unkept-draws NotDue unkept = refl
 unkept-draws (Refused r) unkept = refl
 
 -- and says to have written nothing
-silent : (h : Held) (c : Call ℕ) (s : Said) (h′ : Held) → Made h c s h′ → NotDone (s .reply) → s .reported ≡ 0
+silent : (h : Held) (c : Call Addr) (s : Said) (h′ : Held) → Made h c s h′ → NotDone (s .reply) → s .reported ≡ 0
 silent h _ _ _ (adds a number draws r met) unkept = refl
 silent h _ _ _ (receives action rows draws r gossip events met) unkept = λ i. receive-unkept (h .node) draws (h .gossip) (h .events) r gossip events unkept action rows met .0 i .reported
 silent h _ _ _ (steps tick draws r wait gossip events met) unkept = λ i. step-unkept (h .node) draws (h .gossip) (h .events) r gossip events unkept (h .wait) wait tick met .0 i .reported
 silent h _ _ _ (endsTimer tick r events met) unkept = λ i. end-timer-unkept (h .node) tick (h .events) r events met unkept .0 i .reported
 
 -- and sends none
-sends-none : (h : Held) (c : Call ℕ) (s : Said) (h′ : Held) → Made h c s h′ → NotDone (s .reply) → s .letters ≡ []
+sends-none : (h : Held) (c : Call Addr) (s : Said) (h′ : Held) → Made h c s h′ → NotDone (s .reply) → s .letters ≡ []
 sends-none h _ _ _ (adds a number draws r met) unkept = λ i. lettersOf (add-unkept (h .node) a number draws r met unkept i)
 sends-none h _ _ _ (receives action rows draws r gossip events met) unkept = λ i. lettersOf (receive-unkept (h .node) draws (h .gossip) (h .events) r gossip events unkept action rows met .0 i .answer)
 sends-none h _ _ _ (steps tick draws r wait gossip events met) unkept = λ i. lettersOf (step-unkept (h .node) draws (h .gossip) (h .events) r gossip events unkept (h .wait) wait tick met .0 i .answer)
@@ -120,18 +120,18 @@ pub record Untouched (h h′ : Held) (s : Said) : Type 0 where
   pub reported : s .reported ≡ 0
   pub draws : calls.drawsUsed (s .reply) ≡ 0
 
-pub unkept-keeps : (h h′ : Held) (c : Call ℕ) (s : Said) → Made h c s h′ → NotDone (s .reply) → Untouched h h′ s
+pub unkept-keeps : (h h′ : Held) (c : Call Addr) (s : Said) → Made h c s h′ → NotDone (s .reply) → Untouched h h′ s
 unkept-keeps h h′ c s m unkept = record { held = keeps h c s h′ m unkept; letters = sends-none h c s h′ m unkept; reported = silent h c s h′ m unkept; draws = unkept-draws (s .reply) unkept }
 
 -- the theorem
-pub refused-keeps : (h h′ : Held) (c : Call ℕ) (s : Said) (x : Refusal) → Made h c s h′ → s .reply ≡ Refused x → Untouched h h′ s
+pub refused-keeps : (h h′ : Held) (c : Call Addr) (s : Said) (x : Refusal) → Made h c s h′ → s .reply ≡ Refused x → Untouched h h′ s
 refused-keeps h h′ c s x m said = unkept-keeps h h′ c s m (subst NotDone (sym said) tt)
 
 -- "refused, it returns no node": in its place stand zeros, and nothing is sent
-pub refused-creates-nothing : (settings : Settings) (own number : ℕ) (r : Answer) (x : Refusal) → Creates settings own number r → r .reply ≡ Refused x → r ≡ plainAnswer (Refused x) (packNode nobody)
+pub refused-creates-nothing : (settings : Settings) (own : Addr) (number : ℕ) (r : Answer) (x : Refusal) → Creates settings own number r → r .reply ≡ Refused x → r ≡ plainAnswer (Refused x) (packNode nobody)
 unfolding createdOf
-refused-creates-nothing settings own number r x met said = bare (calls.create ipv4 settings own number) (met .answer)
+refused-creates-nothing settings own number r x met said = bare (calls.create here settings own number) (met .answer)
   where
-    bare : (c : calls.Created ℕ) → r ≡ createdOf c → r ≡ plainAnswer (Refused x) (packNode nobody)
+    bare : (c : calls.Created Addr) → r ≡ createdOf c → r ≡ plainAnswer (Refused x) (packNode nobody)
     bare (calls.created s) e = done-apart (sym (λ i. e i .reply) ∙ said)
     bare (calls.notCreated y) e = e ∙ (λ i. plainAnswer ((sym (λ j. e j .reply) ∙ said) i) (packNode nobody))

@@ -6,11 +6,11 @@ use mathlib.Core.Bool.{true, false}
 use mathlib.Core.List.{List, [], _∷_, map}
 use Prim.Native.Nat.{ℕ}
 use lib.ListN.{length, take, length-map}
-use Rattle.model.specs.IPv4.{ipv4}
+use Rattle.address.specs.Here.{Addr, here}
 use Rattle.model.specs.Answers.{Answer, done, refused, andThen}
 use Rattle.model.specs.Members as list
 use Rattle.model.specs.Rows.{padTo}
-use Rattle.model.specs.Good.{take-pad}
+use Rattle.laws.specs.Pad.{take-pad}
 use Rattle.model.specs.Node as M
 use Rattle.model.specs.Calls as calls
 use Rattle.history.specs.Worlds.{first-cases}
@@ -31,7 +31,7 @@ there-and-back f g back [] = refl
 there-and-back f g back (b ∷ l) = λ i. back b i ∷ there-and-back f g back l i
 
 -- the rows that a call hands back are those of its outcome
-pub stored-unstored : (s : M.Stored ℕ) → storedView (unstored s) ≡ s
+pub stored-unstored : (s : M.Stored Addr) → storedView (unstored s) ≡ s
 unfolding storedView unstored
 stored-unstored s =
     let t = there-and-back fromMember toMember (λ m. refl) (s .table) in
@@ -49,41 +49,41 @@ stored-unstored s =
     }
 
 -- a program's node and wait record, as the model has them
-abbrev pub world : Node → Wait → World ℕ
+abbrev pub world : Node → Wait → World Addr
 world n w = record { node = storedView n; wait = toWait w }
 
-abbrev pub seen : Held → World ℕ
+abbrev pub seen : Held → World Addr
 seen h = world (h .node) (h .wait)
 
 -- an add reports nothing
-add-silent : (s : M.Stored ℕ) (a n : ℕ) (ds : List ℕ) → calls.addPeer ipv4 s a n ds .events ≡ []
+add-silent : (s : M.Stored Addr) (a : Addr) (n : ℕ) (ds : List ℕ) → calls.addPeer here s a n ds .events ≡ []
 unfolding calls.addPeer
 add-silent s a n ds =
-    first-cases (λ (o : calls.Outcome ℕ). o .events ≡ []) (calls.addTests ipv4 s a) (calls.refuses s) _ (λ r. refl)
+    first-cases (λ (o : calls.Outcome Addr). o .events ≡ []) (calls.addTests here s a) (calls.refuses s) _ (λ r. refl)
     (λ p.
-    elim (M.lists ipv4 a (M.loaded s)) as (λ t. calls.orAlready t s (calls.kept ipv4 s ds (calls.joins ipv4 a n (M.loaded s) ds)) .events ≡ []) [
+    elim (M.lists here a (M.loaded s)) as (λ t. calls.orAlready t s (calls.kept here s ds (calls.joins here a n (M.loaded s) ds)) .events ≡ []) [
       | true ↦ refl
-      | false ↦ added (list.add (ipv4 .same) a n (M.loaded s .members) ds)
+      | false ↦ added (list.add (here .same) a n (M.loaded s .members) ds)
     ])
   where
-    added : (x : Answer (list.Members ℕ)) → calls.kept ipv4 s ds (andThen x λ m rest. done (record { node = M.withMembers (M.loaded s) m; messages = []; events = [] }) rest) .events ≡ []
+    added : (x : Answer (list.Members Addr)) → calls.kept here s ds (andThen x λ m rest. done (record { node = M.withMembers (M.loaded s) m; messages = []; events = [] }) rest) .events ≡ []
     added (refused r) = refl
     added (done m rest) = refl
 
 -- the letters in use are the messages
-letters-are : (o : calls.Outcome ℕ) → lettersOf (answerOf o) ≡ map fromMessage (o .messages)
+letters-are : (o : calls.Outcome Addr) → lettersOf (answerOf o) ≡ map fromMessage (o .messages)
 unfolding answerOf
 letters-are o = ap (λ (n : ℕ). take n (padTo 4 noLetter (map fromMessage (o .messages)))) (sym (length-map (o .messages) fromMessage)) ∙ take-pad 4 noLetter (map fromMessage (o .messages))
 
 -- one call: the world that it hands back, its reply, and the events that stand in the row it hands back are those of the model's call
-pub record MadeAs (h : Held) (c : Call ℕ) (s : Said) (h′ : Held) : Type 0 where
-  pub world : seen h′ ≡ worldOf ipv4 (outcome ipv4 c (seen h))
-  pub reply : s .reply ≡ outcome ipv4 c (seen h) .outcome .reply
-  pub letters : s .letters ≡ map fromMessage (outcome ipv4 c (seen h) .outcome .messages)
-  pub events : h′ .events ≡ rowAfter (outcome ipv4 c (seen h) .outcome .events) (h .events)
-  pub reported : s .reported ≡ length (outcome ipv4 c (seen h) .outcome .events)
+pub record MadeAs (h : Held) (c : Call Addr) (s : Said) (h′ : Held) : Type 0 where
+  pub world : seen h′ ≡ worldOf here (outcome here c (seen h))
+  pub reply : s .reply ≡ outcome here c (seen h) .outcome .reply
+  pub letters : s .letters ≡ map fromMessage (outcome here c (seen h) .outcome .messages)
+  pub events : h′ .events ≡ rowAfter (outcome here c (seen h) .outcome .events) (h .events)
+  pub reported : s .reported ≡ length (outcome here c (seen h) .outcome .events)
 
-pub made-is : (h : Held) (c : Call ℕ) (s : Said) (h′ : Held) → Made h c s h′ → MadeAs h c s h′
+pub made-is : (h : Held) (c : Call Addr) (s : Said) (h′ : Held) → Made h c s h′ → MadeAs h c s h′
 unfolding answerOf outcomeOf
 made-is h _ _ _ (adds a number draws r met) =
     let silent = add-silent (storedView (h .node)) a number draws in
@@ -120,11 +120,11 @@ made-is h _ _ _ (endsTimer tick r events met) =
     }
 
 -- a program's calls, one after the other: each takes the node and the wait record that the last one handed back, and whatever rows the host lends
-pub data Runs : Node → Wait → List (Call ℕ) → Node → Wait → Type 0 where
+pub data Runs : Node → Wait → List (Call Addr) → Node → Wait → Type 0 where
   rests : (n : Node) (w : Wait) → Runs n w [] n w
-  makes : {cs : List (Call ℕ)} {n : Node} {w : Wait} (h : Held) (c : Call ℕ) (s : Said) (h′ : Held) → Made h c s h′ → Runs (h′ .node) (h′ .wait) cs n w → Runs (h .node) (h .wait) (c ∷ cs) n w
+  makes : {cs : List (Call Addr)} {n : Node} {w : Wait} (h : Held) (c : Call Addr) (s : Said) (h′ : Held) → Made h c s h′ → Runs (h′ .node) (h′ .wait) cs n w → Runs (h .node) (h .wait) (c ∷ cs) n w
 
 -- every run of the program is the model's history of its calls
-pub runs-is : {n n′ : Node} {w w′ : Wait} {cs : List (Call ℕ)} → Runs n w cs n′ w′ → run ipv4 cs (world n w) ≡ world n′ w′
+pub runs-is : {n n′ : Node} {w w′ : Wait} {cs : List (Call Addr)} → Runs n w cs n′ w′ → run here cs (world n w) ≡ world n′ w′
 runs-is (rests n w) = refl
-runs-is (makes {cs = cs} h c s h′ m rest) = ap (run ipv4 cs) (sym (made-is h c s h′ m .world)) ∙ runs-is rest
+runs-is (makes {cs = cs} h c s h′ m rest) = ap (run here cs) (sym (made-is h c s h′ m .world)) ∙ runs-is rest

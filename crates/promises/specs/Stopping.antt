@@ -1,49 +1,79 @@
 -- EACH RULE REFUSES BY ITS TESTS, in the order of Stops.antt. For any type of address.
 -- Assumes nothing.
-use mathlib.Core.Path.{_≡_, refl}
+use mathlib.Core.Path.{_≡_, refl, sym}
 use mathlib.Core.Logic.{_↔_}
-use mathlib.Core.Bool.{Bool, true, false, not, _&&_, _||_}
+use mathlib.Core.Bool.{Bool, true, false}
 use mathlib.Core.List.{List, [], _∷_}
 use mathlib.Core.Option.{Option, none, some}
-use Prim.Native.Nat.{ℕ, _+_, max}
+use Prim.Native.Nat.{ℕ, _+_, max, _<_}
+use native.Mathlib.Omega.{arith}
 use lib.ListN.{length, getD}
 use lib.Dec.{leb, ltb}
+use borrow.Author.Tests.{lt-ltb, le-ltb, le-leb, lt-leb}
+use Rattle.model.specs.declared.Kind.{Kind}
+use Rattle.model.specs.declared.Kind.the-variants as kind
+use Rattle.model.specs.declared.State.{State}
 use Rattle.model.specs.declared.State.the-variants as state
 use Rattle.model.specs.declared.Refusal.{Refusal}
-use Rattle.model.specs.declared.Refusal.the-variants.{NumberEnd, ListFull, DrawsShort, HeapFull, TimersFull}
+use Rattle.model.specs.declared.Refusal.the-variants.{DrawsShort, HeapFull, TimersFull}
 use Rattle.model.specs.Rows.{pick, isEmpty, removeAt}
-use Rattle.model.specs.Bounds.{heap-places, last-number}
+use Rattle.laws.specs.Bools.{none-some}
+use Rattle.model.specs.Bounds.{last-number}
 use Rattle.model.specs.Answers.{Answer, done, refused, andThen, when, draw}
-use Rattle.model.specs.Words.{Address, Event, Nothing, Joined, Recovered, Suspected, Deceased, Gossip, Entry, Timer, noTimer, WaitState, SendingPing, WaitingForPingAck, SendingPingReq, WaitingForPingReqAck, Declaring}
+use Rattle.model.specs.Words.{Address, isAlive, partsOf, Event, Suspected, Deceased, Gossip, Timer, noTimer, WaitState, SendingPing, WaitingForPingAck, SendingPingReq, WaitingForPingReqAck, Declaring}
 use Rattle.model.specs.Members as list
 use Rattle.model.specs.Node as M
-use Rattle.model.specs.Node.{Node, Out, lists, numbered, stateOf, heldDeath}
+use Rattle.model.specs.Node.{Node, lists, numbered, stateOf, heldDeath}
 use Rattle.model.specs.Handler as handler
+use Rattle.laws_rules.specs.Judged.{Believed, of-alive, of-other, Judged, skipped, joined-at-end, joined-low, joined-raises, joined-enters, recovered-unknown, recovered-low, recovered-recovers, own-at-end, own-refutes, suspected-unknown, suspected-equal, suspected-low, suspected-suspects, deceased-unknown, deceased-low, deceased-buries, judged, SenderJudged, listed-already, sender-at-end, sender-enters, sender-judged}
 use Rattle.model.specs.Detector as D
 use Rattle.model.specs.Calls as calls
 use Rattle.promises.specs.Firsts.{FirstFails, Among, fails, Refuses, halts, goes, exactly, untested, tested, then}
 use Rattle.promises.specs.Reads.{pickReads, pick-reading, reading-refuses}
-use Rattle.promises.specs.Stops.{Heap, alive, deceased, plusOneOr0, atEnd, nothingWanted, pushIf, pushOnlyIf, listFull, heapFull, noRoom, timersFull, addStops, wantsStops, endStops, itemStops, admitStops, pingReads, groupReads, stepStops}
+use Rattle.promises.specs.Stops.{plusOneOr0, atEnd, nothingWanted, listFull, heapFull, timersFull, addStops, wantsStops, endStops, itemStops, admitStops, pingReads, groupReads, stepStops}
 
-plus-one-refuses : {B : Type 0} (n : ℕ) (k : ℕ → Answer B) {ts : List (Bool × Refusal)} → Refuses ts (k (n + 1)) → Refuses ((leb last-number n, NumberEnd) ∷ ts) (M.plusOne n k)
-unfolding M.plusOne
-plus-one-refuses n k h = tested (leb last-number n) h
+plus-some : (n m : ℕ) → M.plusOne n ≡ some m → (leb last-number n ≡ false) × (n + 1 ≡ m)
+plus-some n m =
+    elim (leb last-number n) as (λ u. pick u none (some (n + 1)) ≡ some m → (u ≡ false) × (n + 1 ≡ m)) [
+      | true ↦ λ e. none-some e
+      | false ↦ λ e. (refl, cc)
+    ]
 
-death-refuses : {B : Type 0} (d : Option ℕ) (k : ℕ → Answer B) {ts : List (Bool × Refusal)} → Refuses ts (k (plusOneOr0 d)) → Refuses ((atEnd d, NumberEnd) ∷ ts) (M.deathPlusOne d k)
-unfolding M.deathPlusOne
-death-refuses none k h = untested h
-death-refuses (some d) k h = plus-one-refuses d k h
+plus-none : (n : ℕ) → M.plusOne n ≡ none → leb last-number n ≡ true
+plus-none n =
+    elim (leb last-number n) as (λ u. pick u none (some (n + 1)) ≡ none → u ≡ true) [
+      | true ↦ λ e. refl
+      | false ↦ λ e. none-some (sym e)
+    ]
+
+-- D + 1 is there, or it is not
+death-some : (d : Option ℕ) (m : ℕ) → M.deathPlusOne d ≡ some m → (atEnd d ≡ false) × (plusOneOr0 d ≡ m)
+death-some none m e = (refl, cc)
+death-some (some d) m e = plus-some d m e
+
+death-none : (d : Option ℕ) → M.deathPlusOne d ≡ none → atEnd d ≡ true
+death-none none e = cc
+death-none (some d) e = plus-none d e
 
 draw-refuses : {B : Type 0} (ds : List ℕ) {k : ℕ → List ℕ → Answer B} → ((d : ℕ) (rest : List ℕ) → Refuses [] (k d rest)) → Refuses ((isEmpty ds, DrawsShort) ∷ []) (draw ds k)
 draw-refuses [] h = halts (fails refl refl)
 draw-refuses (d ∷ ds) h = untested (h d ds)
 
--- an event is emitted, or nothing happens
-emits-if : {A : Type 0} (u : Bool) (heap : Heap) (s : Node A) {x y : Answer (Out A)} → Refuses ((heapFull heap s, HeapFull) ∷ []) x → Refuses [] y
-    → Refuses ((noRoom (pushIf u heap) s, HeapFull) ∷ []) (when u x y)
-unfolding when
-emits-if true heap s h k = h
-emits-if false heap s h k = untested k
+-- what is believed, and what is not
+is-believed : (st : State) (x n : ℕ) → Believed st x n → handler.believed st x n ≡ true
+unfolding handler.believed
+is-believed st x n (of-alive a h) = rw a (le-leb x n h)
+is-believed st x n (of-other a h) = rw a (lt-ltb x n h)
+
+not-believed-low : (st : State) (x n : ℕ) → n < x → handler.believed st x n ≡ false
+unfolding handler.believed
+not-believed-low state.Alive x n h = lt-leb x n h
+not-believed-low state.Pending x n h = le-ltb x n (omega arith)
+not-believed-low state.Suspected x n h = le-ltb x n (omega arith)
+
+not-believed-equal : (st : State) (x n : ℕ) → isAlive st ≡ false → n ≡ x → handler.believed st x n ≡ false
+unfolding handler.believed
+not-believed-equal st x n a e = rw a (le-ltb x n (omega arith))
 
 -- a test, and two rules after it
 tested-twice : {B C D : Type 0} (u : Bool) {r : Refusal} (b : B) (ds : List ℕ) {us : List (Bool × Refusal)} (f : B → List ℕ → Answer C) (k : C → List ℕ → Answer D)
@@ -61,73 +91,63 @@ module _ {A : Type 0} (address : Address A) where
   unfolding list.add
   add-refuses a n s ds = tested (listFull s) (draw-refuses ds (λ d rest. goes tt))
 
-  push-refuses : {B : Type 0} (g : Gossip A) (h : List (Entry A)) (ds : List ℕ) (k : List (Entry A) → B) → Refuses ((leb heap-places (length h), HeapFull) ∷ []) (andThen (M.pushed address g h ds) λ h′ rest. done (k h′) rest)
-  unfolding M.pushed
-  push-refuses g h ds k = then ((leb heap-places (length h), HeapFull) ∷ []) (tested (leb heap-places (length h)) (goes tt)) (λ h′ rest. goes tt)
+  emit-refuses : (k : Kind) (g : Gossip A) (s : Node A) (ds : List ℕ) → Refuses ((heapFull k s, HeapFull) ∷ []) (M.emit address k g s ds)
+  unfolding M.emit M.pushed
+  emit-refuses k g s ds = then ((heapFull k s, HeapFull) ∷ []) (tested (heapFull k s) (goes tt)) (λ d rest. goes tt)
 
-  emit-alive-refuses : (g : Gossip A) (s : Node A) (ds : List ℕ) → Refuses ((heapFull alive s, HeapFull) ∷ []) (M.emitAlive address g s ds)
-  unfolding M.emitAlive
-  emit-alive-refuses g s ds = push-refuses g (s .alive) ds _
+  -- nothing is asked for, one event, or an address with its event
+  quiet-stops : (s : Node A) (ds : List ℕ) → Refuses (wantsStops nothingWanted s ds) (M.quiet s ds)
+  quiet-stops s ds = untested (untested (untested (untested (quiet-refuses s ds))))
 
-  emit-deceased-refuses : (g : Gossip A) (s : Node A) (ds : List ℕ) → Refuses ((heapFull deceased s, HeapFull) ∷ []) (M.emitDeceased address g s ds)
-  unfolding M.emitDeceased
-  emit-deceased-refuses g s ds = push-refuses g (s .deceased) ds _
+  push-stops : (d : Option ℕ) (k : Kind) (g : Gossip A) (s s′ : Node A) (ds : List ℕ) → atEnd d ≡ false → heapFull k s′ ≡ heapFull k s
+      → Refuses (wantsStops (record { plus-one = d; adds = false; pushes = some k }) s ds) (M.emit address k g s′ ds)
+  push-stops d k g s s′ ds e f = rw (e, sym f) (untested (untested (untested (emit-refuses k g s′ ds))))
 
-  enter-refuses : (a : A) (n : ℕ) (s : Node A) (ds : List ℕ) → Refuses ((listFull s, ListFull) ∷ (isEmpty ds, DrawsShort) ∷ (heapFull alive s, HeapFull) ∷ []) (handler.enter address a n s ds)
-  unfolding handler.enter
-  enter-refuses a n s ds = then (addStops s ds) (add-refuses a n s ds) (λ m rest. emit-alive-refuses _ (M.withMembers s m) rest)
+  enter-stops : (d : Option ℕ) (a : A) (n : ℕ) (s : Node A) (ds : List ℕ) → atEnd d ≡ false
+      → Refuses (wantsStops (record { plus-one = d; adds = true; pushes = some kind.Alive }) s ds) (handler.act address (handler.Enter a n) s ds)
+  unfolding handler.act handler.listAfter handler.newsOf
+  enter-stops d a n s ds e = rw e (untested (then (addStops s ds) (add-refuses a n s ds) (λ m rest. emit-refuses kind.Alive _ (M.withMembers s m) rest)))
 
-  push-refuses-if : (u : Bool) (heap : Heap) (s : Node A) (ds : List ℕ) {x : Answer (Out A)} → Refuses ((heapFull heap s, HeapFull) ∷ []) x → Refuses (wantsStops (pushOnlyIf u heap) s ds) (when u x (M.quiet s ds))
-  push-refuses-if u heap s ds h = untested (untested (untested (emits-if u heap s h (quiet-refuses s ds))))
-
-  nothing-refuses : (s : Node A) (ds : List ℕ) → Refuses (wantsStops nothingWanted s ds) (M.quiet s ds)
-  nothing-refuses s ds = untested (untested (untested (untested (quiet-refuses s ds))))
-
-  joined-at-refuses : (a : A) (n : ℕ) (s : Node A) (ds : List ℕ)
-      → Refuses ((not (lists address a s) && listFull s, ListFull)
-      ∷ (not (lists address a s) && isEmpty ds, DrawsShort)
-      ∷ (noRoom (pushIf (not (lists address a s) || ltb (numbered address a s) n) alive) s, HeapFull)
-      ∷ [])
-      (handler.joinedAt address a n s ds)
-  unfolding handler.joinedAt when M.change
-  joined-at-refuses a n s ds =
-      elim (lists address a s) as (λ u. Refuses ((not u && listFull s, ListFull)
-      ∷ (not u && isEmpty ds, DrawsShort)
-      ∷ (noRoom (pushIf (not u || ltb (numbered address a s) n) alive) s, HeapFull)
-      ∷ [])
-      (when u
-      (when (ltb (numbered address a s) n) (M.emitAlive address (handler.says address Joined s a n) (M.change address a (stateOf address a s) n s) ds) (M.quiet s ds))
-      (handler.enter address a n s ds))) [
-        | true ↦ untested (untested (emits-if (ltb (numbered address a s) n) alive s (emit-alive-refuses _ (M.change address a (stateOf address a s) n s) ds) (quiet-refuses s ds)))
-        | false ↦ enter-refuses a n s ds
-      ]
-
-  suspected-refuses : (a : A) (n : ℕ) (s : Node A) (ds : List ℕ) → Refuses (itemStops address (Suspected a a n) s ds) (handler.suspected address a n s ds)
-  unfolding handler.suspected handler.suspectedOther when M.change
-  suspected-refuses a n s ds =
-      let other : Bool = lists address a s && handler.believed address (stateOf address a s) (numbered address a s) n in
-      elim (address .same (s .own) a) as (λ u. Refuses (wantsStops (pick u (record { plus-one = some n; adds = false; pushes = some alive }) (pushOnlyIf other alive)) s ds)
-      (when u (M.plusOne n λ next. M.emitAlive address (handler.says address Recovered s (s .own) next) s ds) (handler.suspectedOther address a n s ds))) [
-        | true ↦ plus-one-refuses n _ (untested (untested (emit-alive-refuses _ s ds)))
-        | false ↦ push-refuses-if other alive s ds (emit-alive-refuses _ _ ds)
-      ]
+  judged-refuses : (e : Event A) (v : handler.Verdict A) (s : Node A) (ds : List ℕ) → Judged address (s .own) (s .members .table) (heldDeath address (partsOf address e .subject) s) e v
+      → Refuses (itemStops address e s ds) (handler.act address v s ds)
+  unfolding handler.act handler.listAfter handler.newsOf partsOf
+  judged-refuses _ _ s ds skipped = quiet-stops s ds
+  judged-refuses _ _ s ds (joined-at-end {a = a} e) = halts (fails (death-none (heldDeath address a s) e) refl)
+  judged-refuses _ _ s ds (joined-low {a = a} {n = n} least e l h) =
+      let q = death-some (heldDeath address a s) least e in
+      rw (q .0, q .1, l, le-ltb (numbered address a s) (max least n) h) (untested (untested (untested (untested (quiet-refuses s ds)))))
+  judged-refuses _ _ s ds (joined-raises {a = a} {n = n} least e l h) =
+      let q = death-some (heldDeath address a s) least e in
+      rw (q .1, l, lt-ltb (numbered address a s) (max least n) h) (push-stops (heldDeath address a s) kind.Alive _ s _ ds (q .0) refl)
+  judged-refuses _ _ s ds (joined-enters {a = a} {n = n} least e l) =
+      let q = death-some (heldDeath address a s) least e in
+      rw l (enter-stops (heldDeath address a s) a (max least n) s ds (q .0))
+  judged-refuses _ _ s ds (recovered-unknown l) = rw l (quiet-stops s ds)
+  judged-refuses _ _ s ds (recovered-low {a = a} {n = n} l h) = rw (l, le-ltb (numbered address a s) n h) (quiet-stops s ds)
+  judged-refuses _ _ s ds (recovered-recovers {a = a} {n = n} l h) = rw (l, lt-ltb (numbered address a s) n h) (push-stops none kind.Alive _ s _ ds refl refl)
+  judged-refuses _ _ s ds (own-at-end {n = n} o e) = rw o (halts (fails (plus-none n e) refl))
+  judged-refuses _ _ s ds (own-refutes {n = n} next o e) = rw o (push-stops (some n) kind.Alive _ s s ds (plus-some n next e .0) refl)
+  judged-refuses _ _ s ds (suspected-unknown o l) = rw (o, l) (quiet-stops s ds)
+  judged-refuses _ _ s ds (suspected-equal {a = a} {n = n} o l h e) = rw (o, l, not-believed-equal (stateOf address a s) (numbered address a s) n h e) (quiet-stops s ds)
+  judged-refuses _ _ s ds (suspected-low {a = a} {n = n} o l h) = rw (o, l, not-believed-low (stateOf address a s) (numbered address a s) n h) (quiet-stops s ds)
+  judged-refuses _ _ s ds (suspected-suspects {a = a} {n = n} o l h) = rw (o, l, is-believed (stateOf address a s) (numbered address a s) n h) (push-stops none kind.Alive _ s _ ds refl refl)
+  judged-refuses _ _ s ds (deceased-unknown l) = rw l (quiet-stops s ds)
+  judged-refuses _ _ s ds (deceased-low {a = a} {n = n} l h) = rw (l, lt-leb (numbered address a s) n h) (quiet-stops s ds)
+  judged-refuses _ _ s ds (deceased-buries {a = a} {n = n} l h) = rw (l, le-leb (numbered address a s) n h) (push-stops none kind.Deceased _ s _ ds refl refl)
 
   item-refuses : (e : Event A) (s : Node A) (ds : List ℕ) → Refuses (itemStops address e s ds) (handler.item address e s ds)
-  unfolding handler.joined handler.recovered handler.deceased M.change M.leave
-  item-refuses Nothing s ds = nothing-refuses s ds
-  item-refuses (Joined f a n) s ds = death-refuses (heldDeath address a s) _ (joined-at-refuses a (max (plusOneOr0 (heldDeath address a s)) n) s ds)
-  item-refuses (Recovered f a n) s ds = push-refuses-if (lists address a s && ltb (numbered address a s) n) alive s ds (emit-alive-refuses _ _ ds)
-  item-refuses (Suspected f a n) s ds = suspected-refuses a n s ds
-  item-refuses (Deceased f a n) s ds = push-refuses-if (lists address a s && leb (numbered address a s) n) deceased s ds (emit-deceased-refuses _ _ ds)
+  unfolding handler.item
+  item-refuses e s ds = judged-refuses e _ s ds (judged address (s .own) (s .members .table) (heldDeath address (partsOf address e .subject) s) e)
+
+  sender-refuses : (a : A) (v : handler.Verdict A) (s : Node A) (ds : List ℕ) → SenderJudged address (s .own) (s .members .table) (heldDeath address a s) a v → Refuses (admitStops address a s ds) (handler.act address v s ds)
+  unfolding handler.act handler.listAfter handler.newsOf
+  sender-refuses a _ s ds (listed-already l) = rw l (quiet-stops s ds)
+  sender-refuses a _ s ds (sender-at-end l e) = rw l (halts (fails (death-none (heldDeath address a s) e) refl))
+  sender-refuses a _ s ds (sender-enters n l e) = rw l (enter-stops (heldDeath address a s) a n s ds (death-some (heldDeath address a s) n e .0))
 
   admit-refuses : (a : A) (s : Node A) (ds : List ℕ) → Refuses (admitStops address a s ds) (handler.admit address a s ds)
-  unfolding handler.admit when
-  admit-refuses a s ds =
-      elim (lists address a s) as (λ u. Refuses (wantsStops (pick u nothingWanted (record { plus-one = heldDeath address a s; adds = true; pushes = some alive })) s ds)
-      (when u (M.quiet s ds) (M.deathPlusOne (heldDeath address a s) λ n. handler.enter address a n s ds))) [
-        | true ↦ nothing-refuses s ds
-        | false ↦ death-refuses (heldDeath address a s) _ (enter-refuses a _ s ds)
-      ]
+  unfolding handler.admit
+  admit-refuses a s ds = sender-refuses a _ s ds (sender-judged address (s .own) (s .members .table) (heldDeath address a s) a)
 
   -- one gossip item, and one admission: exactly if
   pub item-exactly : (x : Refusal) (e : Event A) (s : Node A) (ds : List ℕ) → (handler.item address e s ds ≡ refused x) ↔ FirstFails x (itemStops address e s ds)
@@ -145,12 +165,12 @@ module _ {A : Type 0} (address : Address A) where
   pick-refuses e wanted s ds = reading-refuses (pick-reading (address .same) (address .blank) (s .own) e wanted (s .members) ds)
 
   pub step-refuses : (st : WaitState A) (now : ℕ) (s : Node A) (ds : List ℕ) → Refuses (stepStops address st s ds) (D.step address st now s ds)
-  unfolding D.sendPing D.waited D.sendPingReq D.suspect D.pickGroup D.declare M.emitAlive M.pushed M.change list.update pickReads
+  unfolding D.sendPing D.waited D.sendPingReq D.suspect D.pickGroup D.declare M.emit M.pushed M.change list.update pickReads
   step-refuses SendingPing now s ds = then ((ltb (length ds) (pingReads address s ds), DrawsShort) ∷ []) (pick-refuses none 1 s ds) (λ p rest. goes tt)
   step-refuses (WaitingForPingAck a n) now s ds = goes tt
   step-refuses (SendingPingReq a n) now s ds =
       let group : ℕ = s .settings .«ping_req_group_size» in
-      tested-twice (heapFull alive s) _ ds _ _
+      tested-twice (heapFull kind.Alive s) _ ds _ _
       (then ((ltb (length ds) (groupReads address a s ds), DrawsShort) ∷ []) (pick-refuses (some a) group (M.change address a state.Suspected n s) ds) (λ p rest. goes tt))
   step-refuses (WaitingForPingReqAck a n) now s ds = goes tt
   step-refuses (Declaring a n) now s ds = tested (timersFull s) (goes tt)
@@ -158,9 +178,9 @@ module _ {A : Type 0} (address : Address A) where
   ended-refuses : (t : Timer A) (s : Node A) (ds : List ℕ) → Refuses (endStops s) (D.ended address t s ds)
   unfolding D.ended M.leave
   ended-refuses t s ds =
-      elim (lists address (t .addr) s) as (λ u. Refuses (endStops s) (M.emitDeceased address (handler.says address Deceased s (t .addr) (t .number)) (pick u (M.leave address (t .addr) s) s) ds)) [
-        | true ↦ emit-deceased-refuses _ (M.leave address (t .addr) s) ds
-        | false ↦ emit-deceased-refuses _ s ds
+      elim (lists address (t .addr) s) as (λ u. Refuses (endStops s) (M.emit address kind.Deceased (record { event = Deceased (s .own) (t .addr) (t .number) }) (pick u (M.leave address (t .addr) s) s) ds)) [
+        | true ↦ emit-refuses kind.Deceased _ (M.leave address (t .addr) s) ds
+        | false ↦ emit-refuses kind.Deceased _ s ds
       ]
 
   pub end-refuses : (i : ℕ) (s : Node A) (ds : List ℕ) → Refuses (endStops s) (calls.reports address (D.endAt address i s ds))

@@ -8,21 +8,19 @@ use mathlib.Core.Option.{Option, none, some}
 use Prim.Native.Nat.{ℕ, _+_, max, _≤_, _<_}
 use lib.ListN.{length, getD, take}
 use lib.Dec.{leb, ltb}
+use Rattle.model.specs.declared.Kind.{Kind}
+use Rattle.model.specs.declared.Kind.the-variants as kind
 use Rattle.model.specs.declared.Refusal.{Refusal}
 use Rattle.model.specs.declared.Refusal.the-variants.{NumberEnd, ListFull, DrawsShort, HeapFull, TimersFull}
 use Rattle.model.specs.Rows.{pick, every, isEmpty}
 use Rattle.model.specs.Bounds.{list-places, heap-places, timer-places, last-number}
 use Rattle.model.specs.Answers.{done}
 use Rattle.model.specs.Words.{Address, Event, Nothing, Joined, Recovered, Suspected, Deceased, Gossip, nothing, Timer, Action, Ping, WaitState, SendingPing, WaitingForPingAck, SendingPingReq, WaitingForPingReqAck, Declaring}
-use Rattle.model.specs.Node.{Node, Out, lists, numbered, stateOf, heldDeath}
+use Rattle.model.specs.Node.{heapOf, Node, Out, lists, numbered, stateOf, heldDeath}
 use Rattle.model.specs.Handler.{believed, gossip}
 use Rattle.model.specs.Detector.{isOver}
 use Rattle.promises.specs.Firsts.{FirstFails}
 use Rattle.promises.specs.Reads.{pickReads}
-
--- which heap an event goes to
-pub data Heap : Type 0 where
-  alive deceased : Heap
 
 -- what a gossip item, or a Ping's admission, asks for
 pub record Wants : Type 0 where
@@ -31,7 +29,7 @@ pub record Wants : Type 0 where
   -- 7, 8: that an address is added, at a place that is drawn
   pub adds : Bool
   -- 9: that an event is pushed, and to which heap
-  pub pushes : Option Heap
+  pub pushes : Option Kind
 
 abbrev pub nothingWanted : Wants
 nothingWanted = record { plus-one = none; adds = false; pushes = none }
@@ -47,22 +45,21 @@ atEnd none = false
 atEnd (some n) = leb last-number n
 
 -- an event is pushed if a condition holds
-abbrev pub pushIf : Bool → Heap → Option Heap
+abbrev pub pushIf : Bool → Kind → Option Kind
 pushIf u heap = pick u (some heap) none
 
 -- and nothing else is asked for
-abbrev pub pushOnlyIf : Bool → Heap → Wants
+abbrev pub pushOnlyIf : Bool → Kind → Wants
 pushOnlyIf u heap = record { plus-one = none; adds = false; pushes = pushIf u heap }
 
 module _ {A : Type 0} where
   abbrev pub listFull : Node A → Bool
   listFull s = leb list-places (length (s .members .table))
 
-  abbrev pub heapFull : Heap → Node A → Bool
-  heapFull alive s = leb heap-places (length (s .alive))
-  heapFull deceased s = leb heap-places (length (s .deceased))
+  abbrev pub heapFull : Kind → Node A → Bool
+  heapFull heap s = leb heap-places (length (heapOf heap (s .disseminator)))
 
-  abbrev pub noRoom : Option Heap → Node A → Bool
+  abbrev pub noRoom : Option Kind → Node A → Bool
   noRoom none s = false
   noRoom (some heap) s = heapFull heap s
 
@@ -84,7 +81,7 @@ module _ {A : Type 0} where
 
   -- an ended timer, which emits Deceased: 9
   abbrev pub endStops : Node A → List (Bool × Refusal)
-  endStops s = (heapFull deceased s, HeapFull) ∷ []
+  endStops s = (heapFull kind.Deceased s, HeapFull) ∷ []
 
 module _ {A : Type 0} (address : Address A) where
   -- what a gossip item asks for, by the handler's rules
@@ -93,17 +90,17 @@ module _ {A : Type 0} (address : Address A) where
   itemWants (Joined f a n) s =
       let d = heldDeath address a s in
       let absent = not (lists address a s) in
-      record { plus-one = d; adds = absent; pushes = pushIf (absent || ltb (numbered address a s) (max (plusOneOr0 d) n)) alive }
-  itemWants (Recovered f a n) s = pushOnlyIf (lists address a s && ltb (numbered address a s) n) alive
+      record { plus-one = d; adds = absent; pushes = pushIf (absent || ltb (numbered address a s) (max (plusOneOr0 d) n)) kind.Alive }
+  itemWants (Recovered f a n) s = pushOnlyIf (lists address a s && ltb (numbered address a s) n) kind.Alive
   itemWants (Suspected f a n) s =
       pick (address .same (s .own) a)
-      (record { plus-one = some n; adds = false; pushes = some alive })
-      (pushOnlyIf (lists address a s && believed address (stateOf address a s) (numbered address a s) n) alive)
-  itemWants (Deceased f a n) s = pushOnlyIf (lists address a s && leb (numbered address a s) n) deceased
+      (record { plus-one = some n; adds = false; pushes = some kind.Alive })
+      (pushOnlyIf (lists address a s && believed (stateOf address a s) (numbered address a s) n) kind.Alive)
+  itemWants (Deceased f a n) s = pushOnlyIf (lists address a s && leb (numbered address a s) n) kind.Deceased
 
   -- what a Ping's sender asks for: nothing if it is listed
   abbrev pub admitWants : A → Node A → Wants
-  admitWants a s = pick (lists address a s) nothingWanted (record { plus-one = heldDeath address a s; adds = true; pushes = some alive })
+  admitWants a s = pick (lists address a s) nothingWanted (record { plus-one = heldDeath address a s; adds = true; pushes = some kind.Alive })
 
   abbrev pub itemStops : Event A → Node A → List ℕ → List (Bool × Refusal)
   itemStops e s ds = wantsStops (itemWants e s) s ds
@@ -122,7 +119,7 @@ module _ {A : Type 0} (address : Address A) where
   abbrev pub stepStops : WaitState A → Node A → List ℕ → List (Bool × Refusal)
   stepStops SendingPing s ds = (ltb (length ds) (pingReads s ds), DrawsShort) ∷ []
   stepStops (WaitingForPingAck a n) s ds = []
-  stepStops (SendingPingReq a n) s ds = (heapFull alive s, HeapFull) ∷ (ltb (length ds) (groupReads a s ds), DrawsShort) ∷ []
+  stepStops (SendingPingReq a n) s ds = (heapFull kind.Alive s, HeapFull) ∷ (ltb (length ds) (groupReads a s ds), DrawsShort) ∷ []
   stepStops (WaitingForPingReqAck a n) s ds = []
   stepStops (Declaring a n) s ds = (timersFull s, TimersFull) ∷ []
 
@@ -150,13 +147,13 @@ module _ {A : Type 0} where
 
   -- "an event is to be pushed to a full heap"
   abbrev pub StepHeapFull : WaitState A → Node A → Type 0
-  StepHeapFull st s = (a : A) × (n : ℕ) × (st ≡ SendingPingReq a n) × (heap-places ≤ length (s .alive))
+  StepHeapFull st s = (a : A) × (n : ℕ) × (st ≡ SendingPingReq a n) × (heap-places ≤ length (s .disseminator .alive))
 
   -- "a draw is needed past the end of the draws": by the ping's pick, or by the group's if the alive heap has room
   abbrev pub StepDrawsShort : Address A → WaitState A → Node A → List ℕ → Type 0
   StepDrawsShort address st s ds =
       ((st ≡ SendingPing) × (length ds < pingReads address s ds))
-      ⊎ ((a : A) × (n : ℕ) × (st ≡ SendingPingReq a n) × (length (s .alive) < heap-places) × (length ds < groupReads address a s ds))
+      ⊎ ((a : A) × (n : ℕ) × (st ≡ SendingPingReq a n) × (length (s .disseminator .alive) < heap-places) × (length ds < groupReads address a s ds))
 
   -- no running timer is over
   abbrev pub noneOver : ℕ → ℕ → List (Timer A) → Bool

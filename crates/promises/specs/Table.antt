@@ -14,7 +14,7 @@ use Rattle.model.specs.declared.Reply.the-variants.{Already, NotDue}
 use Rattle.model.specs.Rows.{has}
 use Rattle.model.specs.Bounds.{list-places, heap-places}
 use Rattle.model.specs.Answers.{numberOf}
-use Rattle.model.specs.IPv4.{ipv4}
+use Rattle.address.specs.Here.{Addr, here}
 use Rattle.model.specs.Node.{lists}
 use Rattle.model.specs.Detector.{due}
 use Rattle.model.specs.Calls as calls
@@ -43,59 +43,59 @@ plainly : {G T P F W : Type 0} → G ↔ (T × (P × F)) → F ↔ W → G ↔ (
 plainly h w = ((λ g. let p = h .0 g in (p .0, p .1 .0, w .0 (p .1 .1))), (λ p. h .1 (p .0, (p .1, w .1 (p .2)))))
 
 -- ---- adding a peer
-module _ (node : Node) (a number : ℕ) (draws : List ℕ) (r : Answer) (met : Adds node a number draws r) where
+module _ (node : Node) (a : Addr) (number : ℕ) (draws : List ℕ) (r : Answer) (met : Adds node a number draws r) where
   abbrev AddPassed : Type 0
-  AddPassed = Passed (calls.addTests ipv4 (storedView node) a)
+  AddPassed = Passed (calls.addTests here (storedView node) a)
 
   -- it is listed
-  pub add-already : (r .reply ≡ Already) ↔ (AddPassed × (lists ipv4 a (handed node) ≡ true))
+  pub add-already : (r .reply ≡ Already) ↔ (AddPassed × (lists here a (handed node) ≡ true))
   unfolding answerOf
-  add-already = as-told (λ i. met .answer i .reply) (add-table ipv4 (storedView node) a number draws .idles)
+  add-already = as-told (λ i. met .answer i .reply) (add-table here (storedView node) a number draws .idles)
 
   -- it isn't listed, and 64 are
-  pub add-7 : (replyNumber (r .reply) ≡ 7) ↔ (AddPassed × (lists ipv4 a (handed node) ≡ false) × (list-places ≤ length (handed node .members .table)))
+  pub add-7 : (replyNumber (r .reply) ≡ 7) ↔ (AddPassed × (lists here a (handed node) ≡ false) × (list-places ≤ length (handed node .members .table)))
   unfolding answerOf
-  add-7 = as-told (λ i. replyNumber (met .answer i .reply)) (plainly (add-table ipv4 (storedView node) a number draws .stops ListFull (omega arith)) (add-full (handed node) draws))
+  add-7 = as-told (λ i. replyNumber (met .answer i .reply)) (plainly (add-table here (storedView node) a number draws .stops ListFull (omega arith)) (add-full (handed node) draws))
 
   -- it isn't listed, fewer than 64 are, and there is no draw
-  pub add-8 : (replyNumber (r .reply) ≡ 8) ↔ (AddPassed × (lists ipv4 a (handed node) ≡ false) × ((length (handed node .members .table) < list-places) × (draws ≡ [])))
+  pub add-8 : (replyNumber (r .reply) ≡ 8) ↔ (AddPassed × (lists here a (handed node) ≡ false) × ((length (handed node .members .table) < list-places) × (draws ≡ [])))
   unfolding answerOf
-  add-8 = as-told (λ i. replyNumber (met .answer i .reply)) (plainly (add-table ipv4 (storedView node) a number draws .stops DrawsShort (omega arith)) (add-short (handed node) draws))
+  add-8 = as-told (λ i. replyNumber (met .answer i .reply)) (plainly (add-table here (storedView node) a number draws .stops DrawsShort (omega arith)) (add-short (handed node) draws))
 
   -- and never 6, 9 or 10
   pub add-numbers : OneOf (0 ∷ 2 ∷ 5 ∷ 7 ∷ 8 ∷ []) (replyNumber (r .reply))
   unfolding answerOf
   add-numbers =
       let ns : List ℕ = 0 ∷ 2 ∷ 5 ∷ 7 ∷ 8 ∷ [] in
-      ap (λ (n : Answer). has eqb (replyNumber (n .reply)) ns) (met .answer) ∙ numbers (add-table ipv4 (storedView node) a number draws) ns refl (refl, (refl, tt)) (λ x h. first-among (λ y. OneOf ns (numberOf y)) (h .1) (refl, (refl, tt)))
+      ap (λ (n : Answer). has eqb (replyNumber (n .reply)) ns) (met .answer) ∙ numbers (add-table here (storedView node) a number draws) ns refl (refl, (refl, tt)) (λ x h. first-among (λ y. OneOf ns (numberOf y)) (h .1) (refl, (refl, tt)))
 
 -- ---- the detector step
 module _ (node : Node) (wait : Wait) (tick : ℕ) (draws : List ℕ) (gossip events : List Gossip) (r : Outcome) (w : Wait) (g e : List Gossip) (met : Steps node wait tick draws gossip events r w g e) where
   abbrev StepPassed : Type 0
-  StepPassed = Passed (calls.stepTests ipv4 (storedView node) (toWait wait) (room gossip events))
+  StepPassed = Passed (calls.stepTests here (storedView node) (toWait wait) (room gossip events))
 
   -- the wait isn't over
   pub step-not-due : (r .answer .reply ≡ NotDue) ↔ (StepPassed × (due (node .settings) (toWait wait) tick ≡ false))
   unfolding outcomeOf answerOf storedView
-  step-not-due = as-told (λ i. met .ends .answer i .answer .reply) (step-table ipv4 (storedView node) (toWait wait) tick draws (room gossip events) .idles)
+  step-not-due = as-told (λ i. met .ends .answer i .answer .reply) (step-table here (storedView node) (toWait wait) tick draws (room gossip events) .idles)
 
   -- it is over, and the rules are stopped
   step-stops : (x : Refusal) → 6 ≤ numberOf x
-      → (replyNumber (r .answer .reply) ≡ numberOf x) ↔ (StepPassed × ((due (node .settings) (toWait wait) tick ≡ true) × FirstFails x (stepStops ipv4 (toWait wait .state) (handed node) draws)))
+      → (replyNumber (r .answer .reply) ≡ numberOf x) ↔ (StepPassed × ((due (node .settings) (toWait wait) tick ≡ true) × FirstFails x (stepStops here (toWait wait .state) (handed node) draws)))
   unfolding outcomeOf answerOf storedView
-  step-stops x late = as-told (λ i. replyNumber (met .ends .answer i .answer .reply)) (step-table ipv4 (storedView node) (toWait wait) tick draws (room gossip events) .stops x late)
+  step-stops x late = as-told (λ i. replyNumber (met .ends .answer i .answer .reply)) (step-table here (storedView node) (toWait wait) tick draws (room gossip events) .stops x late)
 
   -- the pick of one, or that of the group, reads more draws than are lent
-  pub step-8 : (replyNumber (r .answer .reply) ≡ 8) ↔ (StepPassed × (due (node .settings) (toWait wait) tick ≡ true) × StepDrawsShort ipv4 (toWait wait .state) (handed node) draws)
-  step-8 = plainly (step-stops DrawsShort (omega arith)) (step-draws-short ipv4 (handed node) draws (toWait wait .state))
+  pub step-8 : (replyNumber (r .answer .reply) ≡ 8) ↔ (StepPassed × (due (node .settings) (toWait wait) tick ≡ true) × StepDrawsShort here (toWait wait .state) (handed node) draws)
+  step-8 = plainly (step-stops DrawsShort (omega arith)) (step-draws-short here (handed node) draws (toWait wait .state))
 
   -- the suspicion's event finds the alive heap full
   pub step-9 : (replyNumber (r .answer .reply) ≡ 9) ↔ (StepPassed × (due (node .settings) (toWait wait) tick ≡ true) × StepHeapFull (toWait wait .state) (handed node))
-  step-9 = plainly (step-stops HeapFull (omega arith)) (step-heap-full ipv4 (handed node) draws (toWait wait .state))
+  step-9 = plainly (step-stops HeapFull (omega arith)) (step-heap-full here (handed node) draws (toWait wait .state))
 
   -- the declaration finds 16 timers running
   pub step-10 : (replyNumber (r .answer .reply) ≡ 10) ↔ (StepPassed × (due (node .settings) (toWait wait) tick ≡ true) × StepTimersFull (toWait wait .state) (handed node))
-  step-10 = plainly (step-stops TimersFull (omega arith)) (step-timers-full ipv4 (handed node) draws (toWait wait .state))
+  step-10 = plainly (step-stops TimersFull (omega arith)) (step-timers-full here (handed node) draws (toWait wait .state))
 
   -- and never 6 or 7
   pub step-numbers : OneOf (0 ∷ 2 ∷ 3 ∷ 5 ∷ 8 ∷ 9 ∷ 10 ∷ []) (replyNumber (r .answer .reply))
@@ -103,13 +103,13 @@ module _ (node : Node) (wait : Wait) (tick : ℕ) (draws : List ℕ) (gossip eve
   step-numbers =
       let ns : List ℕ = 0 ∷ 2 ∷ 3 ∷ 5 ∷ 8 ∷ 9 ∷ 10 ∷ [] in
       ap (λ (o : Outcome). has eqb (replyNumber (o .answer .reply)) ns) (met .ends .answer)
-      ∙ numbers (step-table ipv4 (storedView node) (toWait wait) tick draws (room gossip events)) ns refl (refl, (refl, (refl, tt)))
-      (λ x h. first-among (λ y. OneOf ns (numberOf y)) (h .1) (step-among ipv4 (λ y. OneOf ns (numberOf y)) refl refl refl (toWait wait .state) (handed node) draws))
+      ∙ numbers (step-table here (storedView node) (toWait wait) tick draws (room gossip events)) ns refl (refl, (refl, (refl, tt)))
+      (λ x h. first-among (λ y. OneOf ns (numberOf y)) (h .1) (step-among here (λ y. OneOf ns (numberOf y)) refl refl refl (toWait wait .state) (handed node) draws))
 
 -- ---- the timer call
 module _ (node : Node) (tick : ℕ) (events : List Gossip) (r : Outcome) (e : List Gossip) (met : EndsTimer node tick events r e) where
   abbrev TimerPassed : Type 0
-  TimerPassed = Passed (calls.timerTests ipv4 (storedView node) (record { gossip = 0; events = length events }))
+  TimerPassed = Passed (calls.timerTests here (storedView node) (record { gossip = 0; events = length events }))
 
   -- whether no running timer is over
   abbrev none-over : Bool
@@ -118,12 +118,12 @@ module _ (node : Node) (tick : ℕ) (events : List Gossip) (r : Outcome) (e : Li
   -- no timer is over
   pub timer-not-due : (r .answer .reply ≡ NotDue) ↔ (TimerPassed × (none-over ≡ true))
   unfolding outcomeOf answerOf storedView
-  timer-not-due = as-told (λ i. met .answer i .answer .reply) (timer-table ipv4 (storedView node) tick (record { gossip = 0; events = length events }) .idles)
+  timer-not-due = as-told (λ i. met .answer i .answer .reply) (timer-table here (storedView node) tick (record { gossip = 0; events = length events }) .idles)
 
   -- one is over, and its event finds the deceased heap full
-  pub timer-9 : (replyNumber (r .answer .reply) ≡ 9) ↔ (TimerPassed × (none-over ≡ false) × (heap-places ≤ length (handed node .deceased)))
+  pub timer-9 : (replyNumber (r .answer .reply) ≡ 9) ↔ (TimerPassed × (none-over ≡ false) × (heap-places ≤ length (handed node .disseminator .deceased)))
   unfolding outcomeOf answerOf storedView
-  timer-9 = as-told (λ i. replyNumber (met .answer i .answer .reply)) (plainly (timer-table ipv4 (storedView node) tick (record { gossip = 0; events = length events }) .stops HeapFull (omega arith)) (end-full (handed node)))
+  timer-9 = as-told (λ i. replyNumber (met .answer i .answer .reply)) (plainly (timer-table here (storedView node) tick (record { gossip = 0; events = length events }) .stops HeapFull (omega arith)) (end-full (handed node)))
 
   -- and never 6, 7, 8 or 10
   pub timer-numbers : OneOf (0 ∷ 2 ∷ 3 ∷ 9 ∷ []) (replyNumber (r .answer .reply))
@@ -131,17 +131,17 @@ module _ (node : Node) (tick : ℕ) (events : List Gossip) (r : Outcome) (e : Li
   timer-numbers =
       let ns : List ℕ = 0 ∷ 2 ∷ 3 ∷ 9 ∷ [] in
       ap (λ (o : Outcome). has eqb (replyNumber (o .answer .reply)) ns) (met .answer)
-      ∙ numbers (timer-table ipv4 (storedView node) tick (record { gossip = 0; events = length events })) ns refl (refl, (refl, tt)) (λ x h. first-among (λ y. OneOf ns (numberOf y)) (h .1) (refl, tt))
+      ∙ numbers (timer-table here (storedView node) tick (record { gossip = 0; events = length events })) ns refl (refl, (refl, tt)) (λ x h. first-among (λ y. OneOf ns (numberOf y)) (h .1) (refl, tt))
 
 -- ---- the message
 module _ (node : Node) (action : Action) (rows : List Gossip) (draws : List ℕ) (gossip events : List Gossip) (r : Outcome) (g e : List Gossip) (met : Receives node action rows draws gossip events r g e) where
   abbrev ReceivePassed : Type 0
-  ReceivePassed = Passed (calls.messageTests ipv4 (storedView node) (toAction action) (map toGossip rows) (room gossip events))
+  ReceivePassed = Passed (calls.messageTests here (storedView node) (toAction action) (map toGossip rows) (room gossip events))
 
   -- 6 to 9: a record stops, or the admission of a Ping's sender
-  pub receive-stops : (x : Refusal) → 6 ≤ numberOf x → (replyNumber (r .answer .reply) ≡ numberOf x) ↔ (ReceivePassed × MessageStops ipv4 (map toGossip rows) (handed node) draws x (toAction action))
+  pub receive-stops : (x : Refusal) → 6 ≤ numberOf x → (replyNumber (r .answer .reply) ≡ numberOf x) ↔ (ReceivePassed × MessageStops here (map toGossip rows) (handed node) draws x (toAction action))
   unfolding outcomeOf answerOf
-  receive-stops x late = as-told (λ i. replyNumber (met .ends .answer i .answer .reply)) (message-table ipv4 (storedView node) (toAction action) (map toGossip rows) draws (room gossip events) .stops x late)
+  receive-stops x late = as-told (λ i. replyNumber (met .ends .answer i .answer .reply)) (message-table here (storedView node) (toAction action) (map toGossip rows) draws (room gossip events) .stops x late)
 
   -- and never 10
   pub receive-numbers : OneOf (0 ∷ 2 ∷ 3 ∷ 4 ∷ 5 ∷ 6 ∷ 7 ∷ 8 ∷ 9 ∷ []) (replyNumber (r .answer .reply))
@@ -149,4 +149,4 @@ module _ (node : Node) (action : Action) (rows : List Gossip) (draws : List ℕ)
   receive-numbers =
       let ns : List ℕ = 0 ∷ 2 ∷ 3 ∷ 4 ∷ 5 ∷ 6 ∷ 7 ∷ 8 ∷ 9 ∷ [] in
       ap (λ (o : Outcome). has eqb (replyNumber (o .answer .reply)) ns) (met .ends .answer)
-      ∙ numbers (message-table ipv4 (storedView node) (toAction action) (map toGossip rows) draws (room gossip events)) ns refl (refl, (refl, (refl, (refl, tt)))) (λ x h. message-among (λ y. OneOf ns (numberOf y)) refl refl refl refl h)
+      ∙ numbers (message-table here (storedView node) (toAction action) (map toGossip rows) draws (room gossip events)) ns refl (refl, (refl, (refl, (refl, tt)))) (λ x h. message-among (λ y. OneOf ns (numberOf y)) refl refl refl refl h)

@@ -3,6 +3,7 @@
 use mathlib.Core.Path.{_≡_, sym, _∙_}
 use mathlib.Core.List.{List}
 use Prim.Native.Nat.{ℕ}
+use Rattle.address.specs.Here.{Addr}
 use Rattle.model.specs.declared.Settings.{Settings}
 use Rattle.model.specs.Calls as calls
 use Rattle.types.specs.declared.Gossip.{Gossip}
@@ -13,13 +14,13 @@ use Rattle.detection.specs.declared.Wait.{Wait}
 use Rattle.swim.specs.declared.Outcome.{Outcome}
 use Rattle.swim.specs.Contracts.{Ends, Creates, Adds, Receives, Steps, EndsTimer}
 
-pub create-unique : (settings : Settings) (own number : ℕ) (r r′ : Answer) → Creates settings own number r → Creates settings own number r′ → r ≡ r′
+pub create-unique : (settings : Settings) (own : Addr) (number : ℕ) (r r′ : Answer) → Creates settings own number r → Creates settings own number r′ → r ≡ r′
 create-unique settings own number r r′ c c′ = c .answer ∙ sym (c′ .answer)
 
-pub add-unique : (node : Node) (a number : ℕ) (draws : List ℕ) (r r′ : Answer) → Adds node a number draws r → Adds node a number draws r′ → r ≡ r′
+pub add-unique : (node : Node) (a : Addr) (number : ℕ) (draws : List ℕ) (r r′ : Answer) → Adds node a number draws r → Adds node a number draws r′ → r ≡ r′
 add-unique node a number draws r r′ c c′ = c .answer ∙ sym (c′ .answer)
 
-ends-unique : (o : calls.Outcome ℕ) (gossip events : List Gossip) (r r′ : Outcome) (g g′ e e′ : List Gossip) → Ends o gossip events r g e → Ends o gossip events r′ g′ e′ → (r ≡ r′) × (g ≡ g′) × (e ≡ e′)
+ends-unique : (o : calls.Outcome Addr) (gossip events : List Gossip) (r r′ : Outcome) (g g′ e e′ : List Gossip) → Ends o gossip events r g e → Ends o gossip events r′ g′ e′ → (r ≡ r′) × (g ≡ g′) × (e ≡ e′)
 ends-unique o gossip events r r′ g g′ e e′ c c′ = (c .answer ∙ sym (c′ .answer), c .spoken ∙ sym (c′ .spoken), c .told ∙ sym (c′ .told))
 
 module _ (node : Node) (draws : List ℕ) (gossip events : List Gossip) (r r′ : Outcome) (g g′ e e′ : List Gossip) where

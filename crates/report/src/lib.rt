@@ -51,6 +51,17 @@ pub fn put_marked(out: &mut [u8], at: usize, mark: u8, n: u64) -> usize {
     put_number(out, start, n)
 }
 
+// The one place that writes an address: as its number.
+fn put_address(out: &mut [u8], at: usize, a: Address) -> usize {
+    put_number(out, at, a)
+}
+
+// A mark and an address after it.
+pub fn put_marked_address(out: &mut [u8], at: usize, mark: u8, a: Address) -> usize {
+    let start = put_byte(out, at, mark);
+    put_address(out, start, a)
+}
+
 fn letter_of(kind: u64) -> u8 {
     match kind {
         1 => b'j',
@@ -67,8 +78,8 @@ pub fn put_record(out: &mut [u8], at: usize, event: Event) -> usize {
         return put_byte(out, at, b'n');
     }
     let letter = put_byte(out, at, letter_of(parts.kind));
-    let from = put_marked(out, letter, b':', parts.from);
-    let subject = put_marked(out, from, b':', parts.subject);
+    let from = put_marked_address(out, letter, b':', parts.from);
+    let subject = put_marked_address(out, from, b':', parts.subject);
     put_marked(out, subject, b':', parts.number)
 }
 
@@ -89,7 +100,7 @@ fn state_letter(state: State) -> u8 {
 
 // `ADDRESS:STATE:NUMBER`.
 pub fn put_member(out: &mut [u8], at: usize, peer: Address, state: State, number: u64) -> usize {
-    let start = put_number(out, at, peer);
+    let start = put_address(out, at, peer);
     let colon = put_byte(out, start, b':');
     let letter = put_byte(out, colon, state_letter(state));
     put_marked(out, letter, b':', number)
@@ -97,7 +108,7 @@ pub fn put_member(out: &mut [u8], at: usize, peer: Address, state: State, number
 
 // `ADDRESS:NUMBER:TICK`.
 pub fn put_timer(out: &mut [u8], at: usize, peer: Address, number: u64, tick: u32) -> usize {
-    let start = put_number(out, at, peer);
+    let start = put_address(out, at, peer);
     let middle = put_marked(out, start, b':', number);
     put_marked(out, middle, b':', tick as u64)
 }
@@ -105,28 +116,28 @@ pub fn put_timer(out: &mut [u8], at: usize, peer: Address, number: u64, tick: u3
 fn put_optional(out: &mut [u8], at: usize, address: Optional) -> usize {
     match address {
         Optional::Absent => put_bytes(out, at, b" -"),
-        Optional::Given(a) => put_marked(out, at, b' ', a),
+        Optional::Given(a) => put_marked_address(out, at, b' ', a),
     }
 }
 
 // `> TARGET` and the message without its records.
 pub fn put_message(out: &mut [u8], at: usize, target: Address, action: Action) -> usize {
     let start = put_bytes(out, at, b"> ");
-    let sent = put_number(out, start, target);
+    let sent = put_address(out, start, target);
     match action {
         Action::Ping { from, requested_by } => {
             let word = put_bytes(out, sent, b" ping");
-            let sender = put_marked(out, word, b' ', from);
+            let sender = put_marked_address(out, word, b' ', from);
             put_optional(out, sender, requested_by)
         }
         Action::PingReq { from, suspect } => {
             let word = put_bytes(out, sent, b" req");
-            let sender = put_marked(out, word, b' ', from);
-            put_marked(out, sender, b' ', suspect)
+            let sender = put_marked_address(out, word, b' ', from);
+            put_marked_address(out, sender, b' ', suspect)
         }
         Action::Ack { from, forward_to } => {
             let word = put_bytes(out, sent, b" ack");
-            let sender = put_marked(out, word, b' ', from);
+            let sender = put_marked_address(out, word, b' ', from);
             put_optional(out, sender, forward_to)
         }
     }

@@ -9,6 +9,7 @@ use report::put_byte;
 use report::put_bytes;
 use report::put_entry;
 use report::put_marked;
+use report::put_marked_address;
 use report::put_member;
 use report::put_timer;
 use timers::Timer;
@@ -93,7 +94,7 @@ fn put_timers(out: &mut [u8], from: usize, entries: [Timer; 16], n: usize) -> us
 }
 
 fn put_peer(out: &mut [u8], at: usize, target: Address, number: u64) -> usize {
-    let start = put_marked(out, at, b' ', target);
+    let start = put_marked_address(out, at, b' ', target);
     put_marked(out, start, b' ', number)
 }
 
@@ -137,9 +138,10 @@ fn put_list(out: &mut [u8], at: usize, node: Node) -> usize {
 }
 
 fn put_heaps(out: &mut [u8], at: usize, node: Node) -> usize {
-    let alive = node.alive;
+    let disseminator = node.disseminator;
+    let alive = disseminator.alive;
     let rising = alive.entries;
-    let deceased = node.deceased;
+    let deceased = disseminator.deceased;
     let dead = deceased.entries;
     let plus = put_byte(out, at, b'+');
     let first = put_heap(out, plus, rising, least(alive.len, 128));

@@ -9,7 +9,7 @@ use lib.Dec.{ltb}
 use borrow.Author.Tests.{lt-ltb, le-ltb}
 use Rattle.model.specs.declared.Refusal.the-variants.{Unsound, AddressRange}
 use Rattle.model.specs.Rows.{pick}
-use Rattle.model.specs.IPv4.{ipv4}
+use Rattle.address.specs.Here.{Addr, here}
 use Rattle.model.specs.Words as W
 use Rattle.model.specs.Node as M
 use Rattle.model.specs.Sound.{sound}
@@ -24,29 +24,29 @@ use Rattle.swim.specs.declared.lookup.Tally.the-variants as tally
 use Rattle.swim.specs.Lookups.{handed, nodeTest, addressTest, listedAs, lookUp, howMany, memberAt}
 
 -- what is answered of the node that the rows hold
-abbrev ofAddress : ℕ → M.Node ℕ → Lookup
-ofAddress a s = pick (M.lists ipv4 a s) (look.Listed a (M.stateOf ipv4 a s) (M.numbered ipv4 a s)) look.NotListed
+abbrev ofAddress : Addr → M.Node Addr → Lookup
+ofAddress a s = pick (M.lists here a s) (look.Listed a (M.stateOf here a s) (M.numbered here a s)) look.NotListed
 
-abbrev ofAll : M.Node ℕ → Tally
+abbrev ofAll : M.Node Addr → Tally
 ofAll s = tally.Listed (length (s .members .table))
 
-abbrev ofPlace : ℕ → M.Node ℕ → Lookup
-ofPlace place s = pick (ltb place (length (s .members .table))) (listedAs (getD (s .members .table) place (W.noMember ipv4))) look.NotListed
+abbrev ofPlace : ℕ → M.Node Addr → Lookup
+ofPlace place s = pick (ltb place (length (s .members .table))) (listedAs (getD (s .members .table) place (W.noMember here))) look.NotListed
 
 module _ (n : Node) where
-  pub look-unsound : (a : ℕ) → sound ipv4 (storedView n) ≡ false → look.Refused Unsound ≡ lookUp n a
+  pub look-unsound : (a : Addr) → sound here (storedView n) ≡ false → look.Refused Unsound ≡ lookUp n a
   unfolding lookUp
   look-unsound a e = sym (test-fails (nodeTest n) (addressTest a ∷ []) look.Refused (ofAddress a (handed n)) (ap not e))
 
-  pub many-unsound : sound ipv4 (storedView n) ≡ false → tally.Refused Unsound ≡ howMany n
+  pub many-unsound : sound here (storedView n) ≡ false → tally.Refused Unsound ≡ howMany n
   unfolding howMany
   many-unsound e = sym (test-fails (nodeTest n) [] tally.Refused (ofAll (handed n)) (ap not e))
 
-  pub at-unsound : (place : ℕ) → sound ipv4 (storedView n) ≡ false → look.Refused Unsound ≡ memberAt n place
+  pub at-unsound : (place : ℕ) → sound here (storedView n) ≡ false → look.Refused Unsound ≡ memberAt n place
   unfolding memberAt
   at-unsound place e = sym (test-fails (nodeTest n) [] look.Refused (ofPlace place (handed n)) (ap not e))
 
-  module _ (e : sound ipv4 (storedView n) ≡ true) where
+  module _ (e : sound here (storedView n) ≡ true) where
     pub many-listed : tally.Listed (length (viewNode n .members .table)) ≡ howMany n
     unfolding howMany
     many-listed = ap ofAll (sym (loaded-view n)) ∙ sym (test-passes (nodeTest n) [] tally.Refused (ofAll (handed n)) (ap not e))
@@ -57,24 +57,24 @@ module _ (n : Node) where
 
     pub at-nobody : (place : ℕ) → length (viewNode n .members .table) ≤ place → look.NotListed ≡ memberAt n place
     at-nobody place l =
-        let m : W.Member ℕ = getD (viewNode n .members .table) place (W.noMember ipv4) in
+        let m : W.Member Addr = getD (viewNode n .members .table) place (W.noMember here) in
         ap (λ (u : Bool). pick u (listedAs m) look.NotListed) (sym (le-ltb place (length (viewNode n .members .table)) l)) ∙ reached place
 
     pub at-listed : (place : ℕ) → place < length (viewNode n .members .table)
-        → listedAs (getD (viewNode n .members .table) place (W.noMember ipv4)) ≡ memberAt n place
+        → listedAs (getD (viewNode n .members .table) place (W.noMember here)) ≡ memberAt n place
     at-listed place l =
-        let m : W.Member ℕ = getD (viewNode n .members .table) place (W.noMember ipv4) in
+        let m : W.Member Addr = getD (viewNode n .members .table) place (W.noMember here) in
         ap (λ (u : Bool). pick u (listedAs m) look.NotListed) (sym (lt-ltb place (length (viewNode n .members .table)) l)) ∙ reached place
 
-    module _ (a : ℕ) where
-      pub look-address : ipv4 .valid a ≡ false → look.Refused AddressRange ≡ lookUp n a
+    module _ (a : Addr) where
+      pub look-address : here .valid a ≡ false → look.Refused AddressRange ≡ lookUp n a
       unfolding lookUp
       look-address v =
           sym
           (test-passes (nodeTest n) (addressTest a ∷ []) look.Refused (ofAddress a (handed n)) (ap not e)
           ∙ test-fails (addressTest a) [] look.Refused (ofAddress a (handed n)) (ap not v))
 
-      module _ (v : ipv4 .valid a ≡ true) where
+      module _ (v : here .valid a ≡ true) where
         passed : ofAddress a (viewNode n) ≡ lookUp n a
         unfolding lookUp
         passed =
@@ -84,7 +84,7 @@ module _ (n : Node) where
             ∙ test-passes (addressTest a) [] look.Refused (ofAddress a (handed n)) (ap not v))
 
         -- the answer where the list has said whether it lists the address
-        pub look-says : (u : Bool) → M.lists ipv4 a (viewNode n) ≡ u
-            → pick u (look.Listed a (M.stateOf ipv4 a (viewNode n)) (M.numbered ipv4 a (viewNode n))) look.NotListed ≡ lookUp n a
+        pub look-says : (u : Bool) → M.lists here a (viewNode n) ≡ u
+            → pick u (look.Listed a (M.stateOf here a (viewNode n)) (M.numbered here a (viewNode n))) look.NotListed ≡ lookUp n a
         look-says u l =
-            ap (λ (w : Bool). pick w (look.Listed a (M.stateOf ipv4 a (viewNode n)) (M.numbered ipv4 a (viewNode n))) look.NotListed) (sym l) ∙ passed
+            ap (λ (w : Bool). pick w (look.Listed a (M.stateOf here a (viewNode n)) (M.numbered here a (viewNode n))) look.NotListed) (sym l) ∙ passed

@@ -6,7 +6,7 @@ use Prim.Native.Nat.{ℕ}
 use lib.ListN.{length}
 use Rattle.model.specs.declared.Settings.{Settings}
 use Rattle.model.specs.Bounds.{Room}
-use Rattle.model.specs.IPv4.{ipv4}
+use Rattle.address.specs.Here.{Addr, here}
 use Rattle.model.specs.Words as W
 use Rattle.model.specs.Calls as calls
 use Rattle.types.specs.declared.Gossip.{Gossip}
@@ -20,11 +20,11 @@ use Rattle.detection.specs.Views.{toWait, fromWait}
 use Rattle.swim.specs.declared.Outcome.{Outcome}
 
 -- how a call ended, its node and its messages, and how many events it reported
-unfoldable pub outcomeOf : calls.Outcome ℕ → Outcome
+unfoldable pub outcomeOf : calls.Outcome Addr → Outcome
 outcomeOf o = record { answer = answerOf o; reported = length (o .events) }
 
 -- a lent row after the call: what was written, and "places past the last written stay as lent"
-unfoldable pub rowAfter : List (W.Gossip ℕ) → List Gossip → List Gossip
+unfoldable pub rowAfter : List (W.Gossip Addr) → List Gossip → List Gossip
 rowAfter gs lent = map fromGossip (calls.written gs (map toGossip lent))
 
 -- the lengths of the rows lent for output
@@ -32,30 +32,30 @@ abbrev pub room : List Gossip → List Gossip → Room
 room gossip events = record { gossip = length gossip; events = length events }
 
 -- a call that ended as the rules say: its answer, and the rows for gossip and events as they are handed back
-pub record Ends (o : calls.Outcome ℕ) (gossip events : List Gossip) (r : Outcome) (gossip′ events′ : List Gossip) : Type 0 where
+pub record Ends (o : calls.Outcome Addr) (gossip events : List Gossip) (r : Outcome) (gossip′ events′ : List Gossip) : Type 0 where
   pub answer : r ≡ outcomeOf o
   pub spoken : gossip′ ≡ rowAfter (calls.packed (o .messages)) gossip
   pub told : events′ ≡ rowAfter (o .events) events
 
 -- the calls, by the rules
-abbrev pub addOf : Node → ℕ → ℕ → List ℕ → calls.Outcome ℕ
-addOf node a number draws = calls.addPeer ipv4 (storedView node) a number draws
+abbrev pub addOf : Node → Addr → ℕ → List ℕ → calls.Outcome Addr
+addOf node a number draws = calls.addPeer here (storedView node) a number draws
 
-abbrev pub messageOf : Node → Action → List Gossip → List ℕ → List Gossip → List Gossip → calls.Outcome ℕ
-messageOf node action rows draws gossip events = calls.message ipv4 (storedView node) (toAction action) (map toGossip rows) draws (room gossip events)
+abbrev pub messageOf : Node → Action → List Gossip → List ℕ → List Gossip → List Gossip → calls.Outcome Addr
+messageOf node action rows draws gossip events = calls.message here (storedView node) (toAction action) (map toGossip rows) draws (room gossip events)
 
-abbrev pub stepOf : Node → Wait → ℕ → List ℕ → List Gossip → List Gossip → calls.StepOutcome ℕ
-stepOf node wait tick draws gossip events = calls.detect ipv4 (storedView node) (toWait wait) tick draws (room gossip events)
+abbrev pub stepOf : Node → Wait → ℕ → List ℕ → List Gossip → List Gossip → calls.StepOutcome Addr
+stepOf node wait tick draws gossip events = calls.detect here (storedView node) (toWait wait) tick draws (room gossip events)
 
-abbrev pub timerOf : Node → ℕ → List Gossip → calls.Outcome ℕ
-timerOf node tick events = calls.endTimer ipv4 (storedView node) tick (record { gossip = 0; events = length events })
+abbrev pub timerOf : Node → ℕ → List Gossip → calls.Outcome Addr
+timerOf node tick events = calls.endTimer here (storedView node) tick (record { gossip = 0; events = length events })
 
 -- creation
-pub record Creates (settings : Settings) (own number : ℕ) (r : Answer) : Type 0 where
-  pub answer : r ≡ createdOf (calls.create ipv4 settings own number)
+pub record Creates (settings : Settings) (own : Addr) (number : ℕ) (r : Answer) : Type 0 where
+  pub answer : r ≡ createdOf (calls.create here settings own number)
 
 -- adding a peer
-pub record Adds (node : Node) (a number : ℕ) (draws : List ℕ) (r : Answer) : Type 0 where
+pub record Adds (node : Node) (a : Addr) (number : ℕ) (draws : List ℕ) (r : Answer) : Type 0 where
   pub answer : r ≡ answerOf (addOf node a number draws)
 
 -- the message

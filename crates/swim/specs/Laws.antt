@@ -13,9 +13,9 @@ use Rattle.model.specs.declared.Refusal.{Refusal}
 use Rattle.model.specs.declared.Refusal.the-variants.{Unsound, ShortRow, ManyRecords, AddressRange}
 use Rattle.model.specs.Rows.{padTo, every}
 use Rattle.model.specs.Bounds.{Room, message-room}
-use Rattle.model.specs.Bools.{drop-map}
-use Rattle.model.specs.HeapFrames.{map-append}
-use Rattle.model.specs.IPv4.{ipv4}
+use Rattle.laws.specs.Bools.{drop-map}
+use Rattle.laws.specs.Lists.{map-append}
+use Rattle.address.specs.Here.{Addr, here}
 use Rattle.model.specs.Words as W
 use Rattle.model.specs.Node as M
 use Rattle.model.specs.Sound.{sound, validGossip}
@@ -32,7 +32,7 @@ use Rattle.swim.specs.declared.Outcome.{Outcome}
 use Rattle.swim.specs.Contracts.{outcomeOf, rowAfter, Ends}
 
 -- the records of a padded array, written over a lent row
-pub row-after : (n : ℕ) (gs : List (W.Gossip ℕ)) (lent : List Gossip) → take (length gs) (padTo n noGossip (map fromGossip gs)) ++ drop (length gs) lent ≡ rowAfter gs lent
+pub row-after : (n : ℕ) (gs : List (W.Gossip Addr)) (lent : List Gossip) → take (length gs) (padTo n noGossip (map fromGossip gs)) ++ drop (length gs) lent ≡ rowAfter gs lent
 unfolding rowAfter
 row-after n gs lent =
     let spoken : List Gossip = map fromGossip gs in
@@ -48,38 +48,38 @@ third true b r r′ r″ ts ts′ refuse go go′ = refl
 third false true r r′ r″ ts ts′ refuse go go′ = refl
 third false false r r′ r″ ts ts′ refuse go go′ = refl
 
-module _ (s : M.Stored ℕ) (action : W.Action ℕ) (ds : List ℕ) (lent : Room) where
+module _ (s : M.Stored Addr) (action : W.Action Addr) (ds : List ℕ) (lent : Room) where
   -- of more than 64 records, only how many there are plays a part: 4 comes before 5
-  many : (gs gs′ : List (W.Gossip ℕ)) → 64 < length gs → 64 < length gs′ → calls.message ipv4 s action gs ds lent ≡ calls.message ipv4 s action gs′ ds lent
+  many : (gs gs′ : List (W.Gossip Addr)) → 64 < length gs → 64 < length gs′ → calls.message here s action gs ds lent ≡ calls.message here s action gs′ ds lent
   unfolding calls.message
   many gs gs′ m m′ =
       (λ i. calls.firstOf (tests (lt-ltb 64 (length gs) m i) gs) (calls.refuses s) (go gs))
-      ∙ third (not (sound ipv4 s)) (calls.short message-room lent) Unsound ShortRow ManyRecords (after gs) (after gs′) (calls.refuses s) (go gs) (go gs′)
+      ∙ third (not (sound here s)) (calls.short message-room lent) Unsound ShortRow ManyRecords (after gs) (after gs′) (calls.refuses s) (go gs) (go gs′)
       ∙ (λ i. calls.firstOf (tests (sym (lt-ltb 64 (length gs′) m′) i) gs′) (calls.refuses s) (go gs′))
     where
-      go : List (W.Gossip ℕ) → calls.Outcome ℕ
-      go gs = calls.kept ipv4 s ds (handle ipv4 action gs (M.loaded s) ds)
+      go : List (W.Gossip Addr) → calls.Outcome Addr
+      go gs = calls.kept here s ds (handle here action gs (M.loaded s) ds)
 
-      after : List (W.Gossip ℕ) → List (Bool × Refusal)
-      after gs = (not (calls.validAction ipv4 action && every (validGossip ipv4) gs), AddressRange) ∷ []
+      after : List (W.Gossip Addr) → List (Bool × Refusal)
+      after gs = (not (calls.validAction here action && every (validGossip here) gs), AddressRange) ∷ []
 
-      tests : Bool → List (W.Gossip ℕ) → List (Bool × Refusal)
-      tests t gs = (not (sound ipv4 s), Unsound) ∷ (calls.short message-room lent, ShortRow) ∷ (t, ManyRecords) ∷ after gs
+      tests : Bool → List (W.Gossip Addr) → List (Bool × Refusal)
+      tests t gs = (not (sound here s), Unsound) ∷ (calls.short message-room lent, ShortRow) ∷ (t, ManyRecords) ∷ after gs
 
   -- the array holds all that matters of a lent row
   whole : (ys : List Gossip) (t : Bool) → ltb 64 (length ys) ≡ t
-      → calls.message ipv4 s action (lentRows (padTo 64 noGossip (take 64 ys)) (length ys)) ds lent ≡ calls.message ipv4 s action (map toGossip ys) ds lent
+      → calls.message here s action (lentRows (padTo 64 noGossip (take 64 ys)) (length ys)) ds lent ≡ calls.message here s action (map toGossip ys) ds lent
   unfolding lentRows
   whole ys true e =
       let m : 64 < length ys = ltb-true 64 (length ys) e in
       let first : List Gossip = padTo 64 noGossip (take 64 ys) in
-      let long : length (map toGossip (take (length ys) first) ++ replicate (length ys - 64) (W.nothing {A = ℕ})) ≡ length ys =
+      let long : length (map toGossip (take (length ys) first) ++ replicate (length ys - 64) (W.nothing {A = Addr})) ≡ length ys =
       length-append (map toGossip (take (length ys) first)) (replicate (length ys - 64) W.nothing)
       ∙ omega (
         arith,
         m,
         length-map (take (length ys) first) toGossip,
-        length-replicate (length ys - 64) (W.nothing {A = ℕ}),
+        length-replicate (length ys - 64) (W.nothing {A = Addr}),
         length-take (length ys) first,
         length-append (take 64 ys) (replicate (64 - length (take 64 ys)) noGossip),
         length-replicate (64 - length (take 64 ys)) noGossip,
@@ -91,16 +91,16 @@ module _ (s : M.Stored ℕ) (action : W.Action ℕ) (ds : List ℕ) (lent : Room
       let none-left : _≡_ {A = ℕ} (length ys - 64) 0 = omega (arith, few) in
       let all : take (length ys) (padTo 64 noGossip (take 64 ys)) ≡ ys =
       ap (λ (l : List Gossip). take (length ys) (padTo 64 noGossip l)) (take-all 64 ys few) ∙ take-append-seam ys (replicate (64 - length ys) noGossip) in
-      (λ i. calls.message ipv4 s action (map toGossip (all i) ++ replicate (none-left i) W.nothing) ds lent)
-      ∙ ap (λ (gs : List (W.Gossip ℕ)). calls.message ipv4 s action gs ds lent) (append-nil (map toGossip ys))
+      (λ i. calls.message here s action (map toGossip (all i) ++ replicate (none-left i) W.nothing) ds lent)
+      ∙ ap (λ (gs : List (W.Gossip Addr)). calls.message here s action gs ds lent) (append-nil (map toGossip ys))
 
   pub lent-message : (ys : List Gossip)
-      → calls.message ipv4 s action (lentRows (padTo 64 noGossip (take 64 ys)) (length ys)) ds lent ≡ calls.message ipv4 s action (map toGossip ys) ds lent
+      → calls.message here s action (lentRows (padTo 64 noGossip (take 64 ys)) (length ys)) ds lent ≡ calls.message here s action (map toGossip ys) ds lent
   lent-message ys = whole ys (ltb 64 (length ys)) refl
 
 -- what a call by value gives ends as its outcome says, once its records are written over the lent rows
 module _ (gossip events ws us : List Gossip) where
-  pub received-ends : (o : calls.Outcome ℕ) (d : Received) → d ≡ receivedOf o → ws ≡ take (d .written) (d .gossip) ++ drop (d .written) gossip
+  pub received-ends : (o : calls.Outcome Addr) (d : Received) → d ≡ receivedOf o → ws ≡ take (d .written) (d .gossip) ++ drop (d .written) gossip
       → us ≡ take (d .reported) (d .events) ++ drop (d .reported) events → Ends o gossip events (record { answer = d .answer; reported = d .reported }) ws us
   unfolding receivedOf outcomeOf
   received-ends o d e ew eu =
@@ -110,7 +110,7 @@ module _ (gossip events ws us : List Gossip) where
         told = eu ∙ (λ i. take (e i .reported) (e i .events) ++ drop (e i .reported) events) ∙ row-after 65 (o .events) events;
       }
 
-  pub stepped-ends : (o : calls.StepOutcome ℕ) (d : Stepped) → d ≡ steppedOf o → ws ≡ take (d .written) (d .gossip) ++ drop (d .written) gossip
+  pub stepped-ends : (o : calls.StepOutcome Addr) (d : Stepped) → d ≡ steppedOf o → ws ≡ take (d .written) (d .gossip) ++ drop (d .written) gossip
       → us ≡ take (d .reported) (d .events) ++ drop (d .reported) events → Ends (o .outcome) gossip events (record { answer = d .answer; reported = d .reported }) ws us
   unfolding steppedOf outcomeOf
   stepped-ends o d e ew eu =
@@ -120,15 +120,15 @@ module _ (gossip events ws us : List Gossip) where
         told = eu ∙ (λ i. take (e i .reported) (e i .events) ++ drop (e i .reported) events) ∙ row-after 1 (o .outcome .events) events;
       }
 
-pub stepped-waits : (o : calls.StepOutcome ℕ) (d : Stepped) → d ≡ steppedOf o → d .wait ≡ fromWait (o .wait)
+pub stepped-waits : (o : calls.StepOutcome Addr) (d : Stepped) → d ≡ steppedOf o → d .wait ≡ fromWait (o .wait)
 unfolding steppedOf
 stepped-waits o d e = λ i. e i .wait
 
 module _ (events us : List Gossip) where
-  pub ended-answer : (o : calls.Outcome ℕ) (d : Ended) → d ≡ endedOf o → record { answer = d .answer; reported = d .reported } ≡ outcomeOf o
+  pub ended-answer : (o : calls.Outcome Addr) (d : Ended) → d ≡ endedOf o → record { answer = d .answer; reported = d .reported } ≡ outcomeOf o
   unfolding endedOf outcomeOf
   ended-answer o d e = λ i. record { answer = e i .answer; reported = e i .reported }
 
-  pub ended-told : (o : calls.Outcome ℕ) (d : Ended) → d ≡ endedOf o → us ≡ take (d .reported) (d .events) ++ drop (d .reported) events → us ≡ rowAfter (o .events) events
+  pub ended-told : (o : calls.Outcome Addr) (d : Ended) → d ≡ endedOf o → us ≡ take (d .reported) (d .events) ++ drop (d .reported) events → us ≡ rowAfter (o .events) events
   unfolding endedOf
   ended-told o d e eu = eu ∙ (λ i. take (e i .reported) (e i .events) ++ drop (e i .reported) events) ∙ row-after 1 (o .events) events

@@ -9,7 +9,7 @@ use Rattle.model.specs.declared.Refusal.{Refusal}
 use Rattle.model.specs.declared.Refusal.the-variants.{Unsound, AddressRange}
 use Rattle.model.specs.Answers.{numberOf}
 use Rattle.model.specs.Rows.{pick}
-use Rattle.model.specs.IPv4.{ipv4}
+use Rattle.address.specs.Here.{Addr, here}
 use Rattle.model.specs.Words as W
 use Rattle.model.specs.Node as M
 use Rattle.model.specs.Sound.{sound}
@@ -22,28 +22,28 @@ use Rattle.swim.specs.declared.lookup.Tally.{Tally}
 use Rattle.swim.specs.declared.lookup.Tally.the-variants as tally
 
 -- the handed node, as the rules have it
-abbrev pub handed : Node → M.Node ℕ
+abbrev pub handed : Node → M.Node Addr
 handed node = M.loaded (storedView node)
 
 abbrev pub nodeTest : Node → Bool × Refusal
-nodeTest node = (not (sound ipv4 (storedView node)), Unsound)
+nodeTest node = (not (sound here (storedView node)), Unsound)
 
-abbrev pub addressTest : ℕ → Bool × Refusal
-addressTest a = (not (ipv4 .valid a), AddressRange)
+abbrev pub addressTest : Addr → Bool × Refusal
+addressTest a = (not (here .valid a), AddressRange)
 
 -- an address: is it listed, and its state and its number as held
-unfoldable pub lookUp : Node → ℕ → Lookup
+unfoldable pub lookUp : Node → Addr → Lookup
 lookUp node a =
     calls.firstOf (nodeTest node ∷ addressTest a ∷ [])
     look.Refused
-    (pick (M.lists ipv4 a (handed node)) (look.Listed a (M.stateOf ipv4 a (handed node)) (M.numbered ipv4 a (handed node))) look.NotListed)
+    (pick (M.lists here a (handed node)) (look.Listed a (M.stateOf here a (handed node)) (M.numbered here a (handed node))) look.NotListed)
 
 -- how many addresses are listed
 unfoldable pub howMany : Node → Tally
 howMany node = calls.firstOf (nodeTest node ∷ []) tally.Refused (tally.Listed (length (handed node .members .table)))
 
 -- a record of the list
-abbrev pub listedAs : W.Member ℕ → Lookup
+abbrev pub listedAs : W.Member Addr → Lookup
 listedAs m = look.Listed (m .addr) (m .state) (m .number)
 
 -- a place of the list: its record, and nobody at or past the count
@@ -52,7 +52,7 @@ memberAt node place =
     let table = handed node .members .table in
     calls.firstOf (nodeTest node ∷ [])
     look.Refused
-    (pick (ltb place (length table)) (listedAs (getD table place (W.noMember ipv4))) look.NotListed)
+    (pick (ltb place (length table)) (listedAs (getD table place (W.noMember here))) look.NotListed)
 
 -- "Where an answer is an enum, there is a definition that gives this paper's number": 0 for what the list says, the number of the table for a refusal
 abbrev pub lookupNumber : Lookup → ℕ

@@ -9,7 +9,6 @@ use node::Node;
 use types::Action;
 use types::Gossip;
 ghost use mathlib.Core.Path.{_≡_};
-ghost use Rattle.model.specs.IPv4.{ipv4};
 ghost use Rattle.model.specs.Calls as calls;
 ghost use Rattle.node.specs.Views.{storedView, answerOf, createdOf};
 ghost use Rattle.swim.specs.Contracts.{Creates, Adds, Receives, Steps, EndsTimer};

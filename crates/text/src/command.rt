@@ -2,9 +2,11 @@
 use address::Address;
 use model::Settings;
 use types::Action;
+use words::AddressAt;
 use words::NumberAt;
 use words::OptionalAt;
 use words::TickAt;
+use words::address_at;
 use words::find;
 use words::number_at;
 use words::optional_at;
@@ -110,10 +112,10 @@ fn new_at(s: &[u8], at: usize) -> Head {
         return malformed();
     }
     let values = ticks.values;
-    let NumberAt::Found {
-        value: own,
+    let AddressAt::Found {
+        address: own,
         next: after_own,
-    } = number_at(s, ticks.next)
+    } = address_at(s, ticks.next)
     else {
         return malformed();
     };
@@ -138,10 +140,10 @@ fn new_at(s: &[u8], at: usize) -> Head {
 }
 
 fn add_at(s: &[u8], at: usize) -> Head {
-    let NumberAt::Found {
-        value: peer,
+    let AddressAt::Found {
+        address: peer,
         next: after_peer,
-    } = number_at(s, at)
+    } = address_at(s, at)
     else {
         return malformed();
     };
@@ -157,10 +159,10 @@ fn add_at(s: &[u8], at: usize) -> Head {
 }
 
 fn ping_at(s: &[u8], at: usize) -> Head {
-    let NumberAt::Found {
-        value: from,
+    let AddressAt::Found {
+        address: from,
         next: after_from,
-    } = number_at(s, at)
+    } = address_at(s, at)
     else {
         return malformed();
     };
@@ -176,17 +178,17 @@ fn ping_at(s: &[u8], at: usize) -> Head {
 }
 
 fn req_at(s: &[u8], at: usize) -> Head {
-    let NumberAt::Found {
-        value: from,
+    let AddressAt::Found {
+        address: from,
         next: after_from,
-    } = number_at(s, at)
+    } = address_at(s, at)
     else {
         return malformed();
     };
-    let NumberAt::Found {
-        value: suspect,
+    let AddressAt::Found {
+        address: suspect,
         next,
-    } = number_at(s, after_from)
+    } = address_at(s, after_from)
     else {
         return malformed();
     };
@@ -195,10 +197,10 @@ fn req_at(s: &[u8], at: usize) -> Head {
 }
 
 fn ack_at(s: &[u8], at: usize) -> Head {
-    let NumberAt::Found {
-        value: from,
+    let AddressAt::Found {
+        address: from,
         next: after_from,
-    } = number_at(s, at)
+    } = address_at(s, at)
     else {
         return malformed();
     };
@@ -268,10 +270,10 @@ fn wait_for(phase: Phase, s: &[u8], at: usize) -> Head {
 
 // A state that holds an address and a number: which one, its first word says.
 fn wait_of_peer(word: &[u8], s: &[u8], at: usize) -> Head {
-    let NumberAt::Found {
-        value: target,
+    let AddressAt::Found {
+        address: target,
         next: after_target,
-    } = number_at(s, at)
+    } = address_at(s, at)
     else {
         return malformed();
     };

@@ -1,9 +1,11 @@
 // The gossip records of a message.
+use address::Address;
 use types::Event;
 use types::Gossip;
+use words::AddressAt;
 use words::MarkAt;
 use words::NumberAt;
-use words::field_at;
+use words::address_field_at;
 use words::find;
 use words::mark_at;
 use words::number_at;
@@ -27,7 +29,7 @@ pub struct Records {
     pub is_whole: bool,
 }
 
-fn event_of(letter: u8, from: u64, subject: u64, number: u64) -> Record {
+fn event_of(letter: u8, from: Address, subject: Address, number: u64) -> Record {
     match letter {
         b'j' => Record::Read(Event::Joined {
             from,
@@ -53,7 +55,7 @@ fn event_of(letter: u8, from: u64, subject: u64, number: u64) -> Record {
     }
 }
 
-// A word that starts with a letter and a colon: three numbers follow, parted by colons.
+// A word that starts with a letter and a colon: two addresses and a number follow, parted by colons.
 fn fields(word: &[u8]) -> Record {
     if word.len() < 2 {
         return Record::Malformed;
@@ -61,17 +63,17 @@ fn fields(word: &[u8]) -> Record {
     if word[1] != b':' {
         return Record::Malformed;
     }
-    let NumberAt::Found {
-        value: from,
+    let AddressAt::Found {
+        address: from,
         next: second,
-    } = field_at(word, 2)
+    } = address_field_at(word, 2)
     else {
         return Record::Malformed;
     };
-    let NumberAt::Found {
-        value: subject,
+    let AddressAt::Found {
+        address: subject,
         next: third,
-    } = field_at(word, second)
+    } = address_field_at(word, second)
     else {
         return Record::Malformed;
     };

@@ -9,7 +9,7 @@ use native.Mathlib.Omega.{arith}
 use native.Mathlib.Numerals.{add-one}
 use lib.ListN.{length, getD, drop, drop-of-length-le}
 use lib.Seq.{drop-cons}
-use Rattle.model.specs.IPv4.{ipv4}
+use Rattle.address.specs.Here.{Addr, here}
 use Rattle.model.specs.Words.{Timer}
 use Rattle.model.specs.Detector.{isOver, firstOver, later}
 
@@ -22,21 +22,21 @@ pub ahead-zero : (o : Option ℕ) → ahead 0 o ≡ o
 ahead-zero none = refl
 ahead-zero (some j) = ap (λ (k : ℕ). some k) (omega arith)
 
-module _ (wait now : ℕ) (d : Timer ℕ) (l : List (Timer ℕ)) (i : ℕ) where
-  abbrev found : List (Timer ℕ) → Option ℕ
-  found = firstOver ipv4 wait now
+module _ (wait now : ℕ) (d : Timer Addr) (l : List (Timer Addr)) (i : ℕ) where
+  abbrev found : List (Timer Addr) → Option ℕ
+  found = firstOver here wait now
 
-  pub search-found : i < length l → isOver wait now (getD l i d .since) ≡ true → ahead i (firstOver ipv4 wait now (drop i l)) ≡ some i
+  pub search-found : i < length l → isOver wait now (getD l i d .since) ≡ true → ahead i (firstOver here wait now (drop i l)) ≡ some i
   unfolding firstOver
   search-found h e =
-      ap (λ (m : List (Timer ℕ)). ahead i (found m)) (drop-cons l i d h)
+      ap (λ (m : List (Timer Addr)). ahead i (found m)) (drop-cons l i d h)
       ∙ ap (λ (u : Bool). ahead i (elim u [ true ↦ some 0 | false ↦ later (found (drop (suc i) l)) ])) e
       ∙ ap (λ (k : ℕ). some k) (omega arith)
 
-  pub search-next : i < length l → isOver wait now (getD l i d .since) ≡ false → ahead i (firstOver ipv4 wait now (drop i l)) ≡ ahead (i + 1) (firstOver ipv4 wait now (drop (i + 1) l))
+  pub search-next : i < length l → isOver wait now (getD l i d .since) ≡ false → ahead i (firstOver here wait now (drop i l)) ≡ ahead (i + 1) (firstOver here wait now (drop (i + 1) l))
   unfolding firstOver
   search-next h e =
-      ap (λ (m : List (Timer ℕ)). ahead i (found m)) (drop-cons l i d h)
+      ap (λ (m : List (Timer Addr)). ahead i (found m)) (drop-cons l i d h)
       ∙ ap (λ (u : Bool). ahead i (elim u [ true ↦ some 0 | false ↦ later (found (drop (suc i) l)) ])) e
       ∙ further (found (drop (suc i) l))
       ∙ ap (λ (j : ℕ). ahead (i + 1) (found (drop j l))) (sym (add-one i))
@@ -45,6 +45,6 @@ module _ (wait now : ℕ) (d : Timer ℕ) (l : List (Timer ℕ)) (i : ℕ) where
       further none = refl
       further (some j) = ap (λ (k : ℕ). some k) (omega arith)
 
-  pub search-ends : length l ≤ i → ahead i (firstOver ipv4 wait now (drop i l)) ≡ none
+  pub search-ends : length l ≤ i → ahead i (firstOver here wait now (drop i l)) ≡ none
   unfolding firstOver
-  search-ends h = ap (λ (m : List (Timer ℕ)). ahead i (found m)) (drop-of-length-le l h)
+  search-ends h = ap (λ (m : List (Timer Addr)). ahead i (found m)) (drop-of-length-le l h)

@@ -4,7 +4,7 @@ ghost use mathlib.Core.Path.{_≡_};
 ghost use mathlib.Core.List.{[], _∷_, _++_, map};
 ghost use Prim.Native.Nat.{_≤_, _<_};
 ghost use lib.ListN.{take, drop};
-ghost use Rattle.model.specs.IPv4.{ipv4};
+ghost use Rattle.address.specs.Here.{here};
 ghost use Rattle.model.specs.Rows.{padTo, removeAt, every};
 ghost use Rattle.model.specs.Detector.{isOver, firstOver};
 ghost use Rattle.model.specs.Sound.{soundTimers};
@@ -111,7 +111,7 @@ pub enum Ending {
 // The earliest started of the first n that is over.
 pub fn first_over(entries: [Timer; Timers::CAPACITY], n: usize, wait: u32, now: u32) -> Ending
     requires { ⌜ n ≤ 16 ⌝ }
-    ensures { λ r. ⌜ r ≡ endingOf (firstOver ipv4 wait now (map toTimer (take n entries))) ⌝ }
+    ensures { λ r. ⌜ r ≡ endingOf (firstOver here wait now (map toTimer (take n entries))) ⌝ }
 {
     let mut i = 0;
     while i < n {
@@ -171,7 +171,7 @@ fn all_empty(entries: [Timer; Timers::CAPACITY], n: usize) -> bool
 
 // The clauses of a sound node that are about timers.
 pub fn sound_timers(timers: Timers) -> bool
-    ensures { λ r. ⌜ r ≡ soundTimers ipv4 (rowView timers) ⌝ }
+    ensures { λ r. ⌜ r ≡ soundTimers here (rowView timers) ⌝ }
 {
     let entries = timers.entries;
     let n = timers.len;

@@ -6,10 +6,10 @@ use Prim.Native.Nat.{ℕ, zero, suc, _+_, _-_, _/_, _≤_, _<_}
 use native.Mathlib.Omega.{arith}
 use lib.Dec.{ltb}
 use borrow.Author.Tests.{lt-ltb, le-ltb, eq-eqb, ne-eqb}
-use Rattle.model.specs.IPv4.{ipv4}
+use Rattle.address.specs.Here.{here}
 use Rattle.model.specs.Words.{partsOf}
 use Rattle.model.specs.Size.{varintFrom, varintLength, numberSize, sizeOver, sizeOf}
-use Rattle.model.specs.SizeLaws.{partsSize, size-by-parts}
+use Rattle.types.specs.SizeLaws.{partsSize, size-by-parts}
 use Rattle.types.specs.declared.Gossip.{Gossip}
 use Rattle.types.specs.declared.Parts.{Parts}
 use Rattle.types.specs.Views.{toEvent, toGossip, fromParts}
@@ -48,19 +48,19 @@ counted-out n rest len h e =
     let s : 10 - len ≡ 0 = omega arith in
     omega (arith, ap (λ (f : ℕ). varintFrom f rest) s)
 
-module _ (g : Gossip) (p : Parts) (e : p ≡ fromParts (partsOf ipv4 (toEvent (g .event)))) where
-  by-parts : partsSize ipv4 (toParts p) ≡ sizeOf ipv4 (toGossip g)
-  by-parts = ap (λ (x : Parts). partsSize ipv4 (toParts x)) e ∙ sym (size-by-parts ipv4 (toGossip g))
+module _ (g : Gossip) (p : Parts) (e : p ≡ fromParts (partsOf here (toEvent (g .event)))) where
+  by-parts : partsSize here (toParts p) ≡ sizeOf here (toGossip g)
+  by-parts = ap (λ (x : Parts). partsSize here (toParts x)) e ∙ sym (size-by-parts here (toGossip g))
 
-  pub size-none : p .kind ≡ 0 → 0 ≡ sizeOf ipv4 (toGossip g)
+  pub size-none : p .kind ≡ 0 → 0 ≡ sizeOf here (toGossip g)
   size-none k = sym (rw (eq-eqb (p .kind) 0 k)) ∙ by-parts
 
   pub size-some :
       (f s m : ℕ) →
       (p .kind ≡ 0 → ⊥) →
-      f ≡ ipv4 .chars (p .from) →
-      s ≡ ipv4 .chars (p .subject) →
+      f ≡ here .chars (p .from) →
+      s ≡ here .chars (p .subject) →
       m ≡ numberSize (p .number) →
-      2 + (2 + f) + (2 + s) + m ≡ sizeOf ipv4 (toGossip g)
+      2 + (2 + f) + (2 + s) + m ≡ sizeOf here (toGossip g)
   unfolding sizeOver
   size-some f s m k x y z = rw (x, y, z) (sym (rw (ne-eqb (p .kind) 0 k)) ∙ by-parts)

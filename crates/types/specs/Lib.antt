@@ -1,3 +1,4 @@
+pub mod SizeLaws
 pub mod Views
 pub mod Wire
-pub mod IPv4Wire
+pub mod TextWire

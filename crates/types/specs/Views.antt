@@ -1,9 +1,9 @@
--- How the declared types carry the model's words at addresses that are numbers: each of `to` and `from` undoes the other.
+-- How the declared types carry the model's words: each of `to` and `from` undoes the other.
 -- Assumes nothing.
 use mathlib.Core.Path.{_≡_, refl}
 use mathlib.Core.List.{List, [], _∷_, map}
 use mathlib.Core.Option.{Option, none, some}
-use Prim.Native.Nat.{ℕ}
+use Rattle.address.specs.Here.{Addr}
 use Rattle.model.specs.Words as W
 use Rattle.types.specs.declared.Event.{Event}
 use Rattle.types.specs.declared.Event.the-variants.{Nothing, Joined, Recovered, Suspected, Deceased}
@@ -14,52 +14,52 @@ use Rattle.types.specs.declared.Action.{Action}
 use Rattle.types.specs.declared.Action.the-variants.{Ping, PingReq, Ack}
 use Rattle.types.specs.declared.Parts.{Parts}
 
-abbrev pub toEvent : Event → W.Event ℕ
+abbrev pub toEvent : Event → W.Event Addr
 toEvent Nothing = W.Nothing
 toEvent (Joined f s n) = W.Joined f s n
 toEvent (Recovered f s n) = W.Recovered f s n
 toEvent (Suspected f s n) = W.Suspected f s n
 toEvent (Deceased f s n) = W.Deceased f s n
 
-abbrev pub fromEvent : W.Event ℕ → Event
+abbrev pub fromEvent : W.Event Addr → Event
 fromEvent W.Nothing = Nothing
 fromEvent (W.Joined f s n) = Joined f s n
 fromEvent (W.Recovered f s n) = Recovered f s n
 fromEvent (W.Suspected f s n) = Suspected f s n
 fromEvent (W.Deceased f s n) = Deceased f s n
 
-abbrev pub toGossip : Gossip → W.Gossip ℕ
+abbrev pub toGossip : Gossip → W.Gossip Addr
 toGossip g = record { event = toEvent (g .event) }
 
-abbrev pub fromGossip : W.Gossip ℕ → Gossip
+abbrev pub fromGossip : W.Gossip Addr → Gossip
 fromGossip g = record { event = fromEvent (g .event) }
 
-abbrev pub toOptional : Optional → Option ℕ
+abbrev pub toOptional : Optional → Option Addr
 toOptional Absent = none
 toOptional (Given a) = some a
 
-abbrev pub fromOptional : Option ℕ → Optional
+abbrev pub fromOptional : Option Addr → Optional
 fromOptional none = Absent
 fromOptional (some a) = Given a
 
-abbrev pub toAction : Action → W.Action ℕ
+abbrev pub toAction : Action → W.Action Addr
 toAction (Ping f o) = W.Ping f (toOptional o)
 toAction (PingReq f s) = W.PingReq f s
 toAction (Ack f o) = W.Ack f (toOptional o)
 
-abbrev pub fromAction : W.Action ℕ → Action
+abbrev pub fromAction : W.Action Addr → Action
 fromAction (W.Ping f o) = Ping f (fromOptional o)
 fromAction (W.PingReq f s) = PingReq f s
 fromAction (W.Ack f o) = Ack f (fromOptional o)
 
-abbrev pub fromParts : W.Parts ℕ → Parts
+abbrev pub fromParts : W.Parts Addr → Parts
 fromParts p = record { kind = p .kind; from = p .from; subject = p .subject; number = p .number }
 
 -- a gossip of no event
 abbrev pub noGossip : Gossip
 noGossip = record { event = Nothing }
 
-pub to-from-event : (e : W.Event ℕ) → toEvent (fromEvent e) ≡ e
+pub to-from-event : (e : W.Event Addr) → toEvent (fromEvent e) ≡ e
 to-from-event W.Nothing = refl
 to-from-event (W.Joined f s n) = refl
 to-from-event (W.Recovered f s n) = refl
@@ -73,13 +73,13 @@ from-to-event (Recovered f s n) = refl
 from-to-event (Suspected f s n) = refl
 from-to-event (Deceased f s n) = refl
 
-pub to-from-gossip : (g : W.Gossip ℕ) → toGossip (fromGossip g) ≡ g
+pub to-from-gossip : (g : W.Gossip Addr) → toGossip (fromGossip g) ≡ g
 to-from-gossip g = λ i. record { event = to-from-event (g .event) i }
 
 pub from-to-gossip : (g : Gossip) → fromGossip (toGossip g) ≡ g
 from-to-gossip g = λ i. record { event = from-to-event (g .event) i }
 
-pub to-from-gossips : (l : List (W.Gossip ℕ)) → map toGossip (map fromGossip l) ≡ l
+pub to-from-gossips : (l : List (W.Gossip Addr)) → map toGossip (map fromGossip l) ≡ l
 to-from-gossips [] = refl
 to-from-gossips (g ∷ l) = λ i. to-from-gossip g i ∷ to-from-gossips l i
 
@@ -87,18 +87,9 @@ pub from-to-gossips : (l : List Gossip) → map fromGossip (map toGossip l) ≡ 
 from-to-gossips [] = refl
 from-to-gossips (g ∷ l) = λ i. from-to-gossip g i ∷ from-to-gossips l i
 
-pub to-from-optional : (o : Option ℕ) → toOptional (fromOptional o) ≡ o
-to-from-optional none = refl
-to-from-optional (some a) = refl
-
 pub from-to-optional : (o : Optional) → fromOptional (toOptional o) ≡ o
 from-to-optional Absent = refl
 from-to-optional (Given a) = refl
-
-pub to-from-action : (a : W.Action ℕ) → toAction (fromAction a) ≡ a
-to-from-action (W.Ping f o) = λ i. W.Ping f (to-from-optional o i)
-to-from-action (W.PingReq f s) = refl
-to-from-action (W.Ack f o) = λ i. W.Ack f (to-from-optional o i)
 
 pub from-to-action : (a : Action) → fromAction (toAction a) ≡ a
 from-to-action (Ping f o) = λ i. Ping f (from-to-optional o i)

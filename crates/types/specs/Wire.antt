@@ -11,7 +11,7 @@ use lib.ListN.{length, length-append}
 use borrow.Author.Tests.{lt-ltb, ltb-false, ltb-true}
 use Rattle.model.specs.Rows.{pick}
 use Rattle.model.specs.Size.{varintFrom, varintLength, numberSize, sizeOver}
-use Rattle.model.specs.SizeLaws.{number-size}
+use Rattle.types.specs.SizeLaws.{number-size}
 
 -- a varint: seven bits a byte, the lowest first, and 128 more in each byte but the last; n steps are enough
 unfoldable pub varintIn : ℕ → ℕ → List ℕ

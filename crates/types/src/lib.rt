@@ -2,7 +2,7 @@
 use address::Address;
 ghost use mathlib.Core.Path.{_≡_};
 ghost use Prim.Native.Nat.{_≤_};
-ghost use Rattle.model.specs.IPv4.{ipv4};
+ghost use Rattle.address.specs.Here.{here};
 ghost use Rattle.model.specs.Words.{partsOf, sameGossip};
 ghost use Rattle.model.specs.Size.{varintLength, numberSize, sizeOf};
 ghost use Rattle.model.specs.Sound.{validGossip};
@@ -130,7 +130,7 @@ pub struct Parts {
 
 // An event is matched once, here; whatever compares or measures events works on the parts.
 pub fn parts_of(e: Event) -> Parts
-    ensures { λ r. ⌜ r ≡ fromParts (partsOf ipv4 (toEvent e)) ⌝ }
+    ensures { λ r. ⌜ r ≡ fromParts (partsOf here (toEvent e)) ⌝ }
 {
     let blank = address::blank();
     match e {
@@ -185,7 +185,7 @@ pub fn parts_of(e: Event) -> Parts
 
 // Are two gossips equal?
 pub fn same_gossip(a: Gossip, b: Gossip) -> bool
-    ensures { λ r. ⌜ r ≡ sameGossip ipv4 (toGossip a) (toGossip b) ⌝ }
+    ensures { λ r. ⌜ r ≡ sameGossip here (toGossip a) (toGossip b) ⌝ }
 {
     let x = a.event;
     let y = b.event;
@@ -231,7 +231,7 @@ fn number_size(n: u64) -> u64
 
 // The bytes of a gossip on the wire; one of no event has none.
 pub fn size_of(g: Gossip) -> u64
-    ensures { λ r. ⌜ (r ≡ sizeOf ipv4 (toGossip g)) × (r ≤ 59) ⌝ }
+    ensures { λ r. ⌜ (r ≡ sizeOf here (toGossip g)) × (r ≤ 59) ⌝ }
 {
     let e = g.event;
     let p = parts_of(e);
@@ -245,7 +245,7 @@ pub fn size_of(g: Gossip) -> u64
 
 // Are a gossip's addresses in range? One of no event holds none.
 pub fn valid_gossip(g: Gossip) -> bool
-    ensures { λ r. ⌜ r ≡ validGossip ipv4 (toGossip g) ⌝ }
+    ensures { λ r. ⌜ r ≡ validGossip here (toGossip g) ⌝ }
 {
     let e = g.event;
     let p = parts_of(e);

@@ -1,5 +1,6 @@
 // A sound node, and nodes with one part of it replaced.
 use address::Address;
+use disseminate::Disseminator;
 use heap::Entry;
 use heap::Heap;
 use member::Member;
@@ -57,7 +58,7 @@ fn list() -> Members {
     let mut table = [Member::none(); 64];
     table[0] = peer(1, 0);
     table[1] = peer(2, 5);
-    let mut order = [0u64; 64];
+    let mut order = [address::blank(); 64];
     order[0] = 2;
     order[1] = 1;
     Members {
@@ -103,13 +104,13 @@ pub fn sound() -> Node {
     let members = list();
     let alive = living();
     let deceased = dead();
+    let disseminator = Disseminator { alive, deceased };
     let timers = running();
     Node {
         settings,
         own: 1,
         members,
-        alive,
-        deceased,
+        disseminator,
         timers,
     }
 }
@@ -181,16 +182,20 @@ fn heap_with(heap: Heap, place: usize, entry: Entry, len: usize) -> Heap {
 }
 
 pub fn alive_at(mut node: Node, place: usize, entry: Entry, len: usize) -> Node {
-    let heap = node.alive;
+    let mut disseminator = node.disseminator;
+    let heap = disseminator.alive;
     let changed = heap_with(heap, place, entry, len);
-    node.alive = changed;
+    disseminator.alive = changed;
+    node.disseminator = disseminator;
     node
 }
 
 pub fn deceased_at(mut node: Node, place: usize, entry: Entry, len: usize) -> Node {
-    let heap = node.deceased;
+    let mut disseminator = node.disseminator;
+    let heap = disseminator.deceased;
     let changed = heap_with(heap, place, entry, len);
-    node.deceased = changed;
+    disseminator.deceased = changed;
+    node.disseminator = disseminator;
     node
 }
 

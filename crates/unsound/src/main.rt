@@ -2,6 +2,7 @@
 mod made;
 mod tell;
 
+use address::Address;
 use heap::Entry;
 use made::alive_at;
 use made::deceased_at;
@@ -71,7 +72,7 @@ fn with_max_size(value: usize) -> Node {
     set_up(sound(), changed)
 }
 
-fn timer(addr: u64, number: u64, since: u32) -> Timer {
+fn timer(addr: Address, number: u64, since: u32) -> Timer {
     Timer {
         addr,
         number,
@@ -79,7 +80,7 @@ fn timer(addr: u64, number: u64, since: u32) -> Timer {
     }
 }
 
-fn foreign(from: u64, subject: u64) -> Event {
+fn foreign(from: Address, subject: Address) -> Event {
     Event::Joined {
         from,
         subject,
@@ -91,15 +92,15 @@ fn foreign(from: u64, subject: u64) -> Event {
 fn emptied(position: usize) -> Node {
     let first = member_at(sound(), 0, Member::none());
     let second = member_at(first, 1, Member::none());
-    let third = ordered(second, 0, 0);
-    let last = ordered(third, 1, 0);
+    let third = ordered(second, 0, address::blank());
+    let last = ordered(third, 1, address::blank());
     listed(last, 0, position)
 }
 
 // A state alone in an unused place.
 fn pending() -> Member {
     Member {
-        addr: 0,
+        addr: address::blank(),
         state: State::Pending,
         number: 0,
     }
@@ -319,7 +320,7 @@ fn list_unused() {
     );
     tell(
         b"a number behind the list",
-        member_at(sound(), 63, peer(0, 1)),
+        member_at(sound(), 63, peer(address::blank(), 1)),
     );
     tell(b"a state behind the list", member_at(sound(), 2, pending()));
     tell(b"an address behind the order", ordered(sound(), 63, 3));
@@ -361,11 +362,11 @@ fn timers_unused() {
     );
     tell(
         b"a number behind the timers",
-        timer_at(sound(), 2, timer(0, 1, 0), 2),
+        timer_at(sound(), 2, timer(address::blank(), 1, 0), 2),
     );
     tell(
         b"a tick behind the timers",
-        timer_at(sound(), 15, timer(0, 0, 1), 2),
+        timer_at(sound(), 15, timer(address::blank(), 0, 1), 2),
     );
 }
 

@@ -1,11 +1,13 @@
 // Reads words: numbers, addresses, marks, each from its place in a line.
 mod places;
 
+pub use places::AddressAt;
 pub use places::MarkAt;
 pub use places::NumberAt;
 pub use places::OptionalAt;
 pub use places::TickAt;
-pub use places::field_at;
+pub use places::address_at;
+pub use places::address_field_at;
 pub use places::find;
 pub use places::mark_at;
 pub use places::number_at;

@@ -1,6 +1,7 @@
 // Words parted by one space. A word starts at a place; past the last word the place is the length plus one.
 use crate::Number;
 use crate::number_of;
+use address::Address;
 use types::Optional;
 ghost use Prim.Native.Nat.{_≤_};
 
@@ -12,6 +13,11 @@ pub enum NumberAt {
 pub enum TickAt {
     Malformed,
     Found { value: u32, next: usize },
+}
+
+pub enum AddressAt {
+    Malformed,
+    Found { address: Address, next: usize },
 }
 
 pub enum OptionalAt {
@@ -55,7 +61,7 @@ pub fn number_at(s: &[u8], at: usize) -> NumberAt {
 }
 
 // A number that ends at a colon.
-pub fn field_at(s: &[u8], at: usize) -> NumberAt {
+fn field_at(s: &[u8], at: usize) -> NumberAt {
     if s.len() < at {
         return NumberAt::Malformed;
     }
@@ -104,6 +110,27 @@ pub fn mark_at(s: &[u8], at: usize, mark: u8) -> MarkAt {
     MarkAt::Found(end + 1)
 }
 
+// The one place where what was read becomes an address: it is written as its number.
+fn address_of(read: NumberAt) -> AddressAt {
+    let NumberAt::Found { value, next } = read else {
+        return AddressAt::Malformed;
+    };
+    AddressAt::Found {
+        address: value,
+        next,
+    }
+}
+
+// The word that starts at a place, as an address.
+pub fn address_at(s: &[u8], at: usize) -> AddressAt {
+    address_of(number_at(s, at))
+}
+
+// An address that ends at a colon.
+pub fn address_field_at(s: &[u8], at: usize) -> AddressAt {
+    address_of(field_at(s, at))
+}
+
 // An address, or `-` for none.
 pub fn optional_at(s: &[u8], at: usize) -> OptionalAt {
     if let MarkAt::Found(next) = mark_at(s, at, b'-') {
@@ -112,11 +139,11 @@ pub fn optional_at(s: &[u8], at: usize) -> OptionalAt {
             next,
         };
     }
-    let NumberAt::Found { value, next } = number_at(s, at) else {
+    let AddressAt::Found { address, next } = address_at(s, at) else {
         return OptionalAt::Malformed;
     };
     OptionalAt::Found {
-        address: Optional::Given(value),
+        address: Optional::Given(address),
         next,
     }
 }

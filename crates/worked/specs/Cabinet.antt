@@ -7,12 +7,13 @@ use Rattle.model.specs.declared.State.{State}
 use Rattle.model.specs.declared.State.the-variants as state
 use Rattle.model.specs.declared.Settings.{Settings}
 use Rattle.model.specs.Answers.{Answer, done, refused}
-use Rattle.model.specs.IPv4.{ipv4}
+use Rattle.address.specs.IPv4.{ipv4}
 use Rattle.model.specs.Words.{Event, Gossip, Entry, unused, sendsOf, Member}
 use Rattle.model.specs.Heap.{push}
 use Rattle.model.specs.Choose.{entryOf}
 use Rattle.model.specs.Members.{Members}
-use Rattle.model.specs.Node.{Node}
+use Rattle.model.specs.Node.{Node, Out}
+use Rattle.model.specs.Handler.{item}
 
 -- 10.0.0.h:7000
 abbrev pub host : ℕ → ℕ
@@ -56,7 +57,7 @@ order o p = members [] o p
 
 abbrev pub node : Members ℕ → List (Entry ℕ) → List (Entry ℕ) → Node ℕ
 node m alive deceased =
-    record { settings = settings; own = own; members = m; alive = alive; deceased = deceased; timers = [] }
+    record { settings = settings; own = own; members = m; disseminator = record { alive = alive; deceased = deceased }; timers = [] }
 
 -- own at 0, and B
 abbrev pub withB : State → ℕ → Node ℕ
@@ -71,3 +72,7 @@ heapOf (g ∷ gs) h = heapOf gs (push unused sendsOf h (entryOf ipv4 g))
 abbrev pub ofGiven : {G H : Type 0} → (G → H) → Answer G → Option H
 ofGiven f (refused r) = none
 ofGiven f (done b ds) = some (f b)
+
+-- the rule of an event, told by C of an address at a number
+abbrev pub ruleOf : (ℕ → ℕ → ℕ → Event ℕ) → ℕ → ℕ → Node ℕ → List ℕ → Answer (Out ℕ)
+ruleOf kind a n s ds = item ipv4 (kind C a n) s ds

@@ -6,15 +6,15 @@ use mathlib.Core.Bool.{Bool, true, false}
 use mathlib.Core.List.{List, [], _∷_}
 use mathlib.Core.Option.{none}
 use Prim.Native.Nat.{ℕ}
-use Rattle.model.specs.Bounds.{Room, message-room, step-room, timer-room}
-use Rattle.model.specs.IPv4.{ipv4}
+use Rattle.model.specs.Bounds.{message-room, step-room, timer-room}
+use Rattle.address.specs.IPv4.{ipv4}
 use Rattle.model.specs.Words.{Event, Joined, Deceased, Gossip, Ping, Ack}
 use Rattle.model.specs.Node.{loaded, lists, numbered}
 use Rattle.model.specs.Answers as answers
 use Rattle.model.specs.Rows as rows
 use Rattle.model.specs.Limit as limit
 use Rattle.model.specs.Size as size
-use Rattle.model.specs.IPv4 as ipv4
+use Rattle.address.specs.IPv4 as ipv4
 use Rattle.model.specs.Words as words
 use Rattle.model.specs.Heap as heap
 use Rattle.model.specs.Choose as choosing
@@ -99,5 +99,5 @@ pub worked-day : follow day (start ipv4 settings own 0 0) (begun ipv4 B own) ≡
     ∷ (counted 2 2 6 false 0)
     ∷ (counted 2 2 6 false 0)
     ∷ []
-unfolding answers.when rows.swap limit.leastFrom limit.leastPower limit.limitOf size.varintFrom size.varintLength size.numberSize size.sizeOver size.sizeOf ipv4.digits ipv4.textLength words.partsOf words.sameGossip heap.climbIn heap.climb heap.lower heap.downIn heap.down heap.push heap.sinkTop heap.removeTop heap.allBelow choosing.termsOf choosing.wasNoted choosing.takeTop choosing.tryHeap choosing.tryAlive choosing.tryDeceased choosing.over choosing.rounds choosing.choose choosing.orElse choosing.death list.shuffle list.advance list.added list.add list.remove list.update list.seek list.pickFrom M.plusOne M.deathPlusOne M.quiet M.andMore M.pushed M.emitAlive M.emitDeceased M.change M.leave M.spread M.loaded M.stored M.fresh handler.enter handler.joinedAt handler.joined handler.recovered handler.believed handler.suspectedOther handler.suspected handler.deceased handler.admit handler.acked handler.answerTo handler.forwarded handler.handle D.isOver D.due D.pinged D.sendPing D.heard D.waited D.suspect D.asked D.pickGroup D.sendPingReq D.declare D.firstOver D.ended D.endAt sounds.inRange sounds.positioned sounds.validGossip sounds.soundEntry sounds.soundHeap sounds.soundMembers sounds.soundTimers sounds.sound calls.create calls.addPeer calls.validAction calls.validState calls.message calls.detect calls.endTimer
+unfolding answers.when rows.swap limit.leastFrom limit.leastPower limit.limitOf size.varintFrom size.varintLength size.numberSize size.sizeOver size.sizeOf ipv4.digits ipv4.textLength words.partsOf words.sameGossip heap.climbIn heap.climb heap.lower heap.downIn heap.down heap.push heap.sinkTop heap.removeTop heap.allBelow choosing.termsOf choosing.wasNoted choosing.takeTop choosing.tryHeap choosing.tryAlive choosing.tryDeceased choosing.over choosing.rounds choosing.choose choosing.orElse choosing.death list.shuffle list.advance list.added list.add list.remove list.update list.seek list.pickFrom M.quiet M.andMore M.pushed M.emit M.change M.leave M.spread M.loaded M.stored M.fresh handler.joinedAt handler.joined handler.recovered handler.believed handler.suspectedOther handler.suspected handler.deceased handler.judgeSender handler.listAfter handler.newsOf handler.act handler.item handler.admit handler.acked handler.answerTo handler.forwarded handler.handle D.isOver D.due D.pinged D.sendPing D.heard D.waited D.suspect D.asked D.pickGroup D.sendPingReq D.declare D.firstOver D.ended D.endAt sounds.inRange sounds.positioned sounds.validGossip sounds.soundEntry sounds.soundHeap sounds.soundMembers sounds.soundTimers sounds.sound calls.create calls.addPeer calls.validAction calls.validState calls.message calls.detect calls.endTimer
 worked-day = refl

@@ -9,24 +9,25 @@ use mathlib.Core.Option.{none}
 use Prim.Native.Nat.{ℕ, zero, suc}
 use lib.ListN.{length, replicate}
 use lib.Dec.{eqb}
+use Rattle.model.specs.declared.Kind.the-variants as kind
 use Rattle.model.specs.declared.State.the-variants as state
 use Rattle.model.specs.Rows.{every, swap}
-use Rattle.model.specs.Bools.{and-split}
+use Rattle.laws.specs.Bools.{and-split}
 use Rattle.model.specs.Bounds.{last-number, message-room, step-room}
 use Rattle.model.specs.Answers.{Answer, when}
 use Rattle.model.specs.Limit.{leastFrom, leastPower, limitOf}
 use Rattle.model.specs.Size.{varintFrom, varintLength, numberSize, sizeOver, sizeOf}
-use Rattle.model.specs.IPv4.{ipv4, address-end, digits, textLength}
-use Rattle.model.specs.Words.{Nothing, Joined, Deceased, Gossip, Entry, nothing, unused, sendsOf, Member, SendingPing, SendingPingReq, Ping, PingReq, Ack, Message, partsOf, sameGossip}
+use Rattle.address.specs.IPv4.{ipv4, address-end, digits, textLength}
+use Rattle.model.specs.Words.{Nothing, Joined, Deceased, Gossip, Entry, nothing, unused, sendsOf, Member, SendingPing, SendingPingReq, Ping, PingReq, Ack, Message, partsOf, sameGossip, Recovered, Suspected}
 use Rattle.model.specs.Heap.{climbIn, climb, lower, downIn, down, push, sinkTop, removeTop, allBelow}
 use Rattle.model.specs.Choose.{termsOf, wasNoted, takeTop, tryHeap, tryAlive, tryDeceased, over, rounds, choose, orElse, death}
 use Rattle.model.specs.Members.{Members, shuffle, advance, added, add, remove, update, seek, pickFrom}
-use Rattle.model.specs.Node.{Node, Out, stored, loaded, withHeaps, withTimers, quiet, andMore, plusOne, deathPlusOne, pushed, emitAlive, emitDeceased, change, leave, spread}
-use Rattle.model.specs.Handler.{enter, joinedAt, joined, recovered, believed, suspectedOther, suspected, deceased, item, gossip, admit, answerTo, handle}
+use Rattle.model.specs.Node.{Node, Out, stored, loaded, withDisseminator, withTimers, quiet, andMore, pushed, emit, change, leave, spread}
+use Rattle.model.specs.Handler.{Enter, judgeSender, listAfter, newsOf, act, joinedAt, joined, recovered, believed, suspectedOther, suspected, deceased, item, gossip, admit, answerTo, handle}
 use Rattle.model.specs.Detector.{Stepped, isOver, due, enters, pinged, sendPing, heard, waited, suspect, asked, pickGroup, sendPingReq, declare}
-use Rattle.model.specs.Sound.{AliveKind, inRange, positioned, validGossip, soundEntry, soundHeap, soundMembers, soundTimers, sound}
+use Rattle.model.specs.Sound.{inRange, positioned, validGossip, soundEntry, soundHeap, soundMembers, soundTimers, sound}
 use Rattle.model.specs.Calls.{packed, validAction, validState, addPeer, message, detect, endTimer}
-use Rattle.worked.specs.Cabinet.{own, B, C, host, says, member, members, node, withB}
+use Rattle.worked.specs.Cabinet.{own, B, C, host, says, member, members, node, withB, ruleOf}
 use Rattle.worked.specs.Seen.{sameNumbers, told-apart, told-equal}
 use Rattle.worked.specs.Seen as look
 use Rattle.worked.specs.Wrong as wrong
@@ -90,28 +91,36 @@ alone = node (among (own ∷ []) 0) [] []
 abbrev emptied : Node ℕ
 emptied = node (among [] 0) [] []
 
+-- own alone is listed, and these are to be spread
+abbrev spreading : List (Entry ℕ) → List (Entry ℕ) → Node ℕ
+spreading alive deceased = withDisseminator alone (record { alive = alive; deceased = deceased })
+
+-- an address that is not listed comes in
+abbrev entered : ℕ → ℕ → Node ℕ → List ℕ → Answer (Out ℕ)
+entered a n s ds = act ipv4 (Enter a n) s ds
+
 -- B has died at 7, or at 3 and at 7
 abbrev buried : Node ℕ
-buried = withHeaps alone [] (sent 0 (dead 7) ∷ [])
+buried = spreading [] (sent 0 (dead 7) ∷ [])
 
 abbrev buriedTwice : Node ℕ
-buriedTwice = withHeaps alone [] (sent 0 (dead 3) ∷ sent 0 (dead 7) ∷ [])
+buriedTwice = spreading [] (sent 0 (dead 3) ∷ sent 0 (dead 7) ∷ [])
 
 abbrev threeTold : Node ℕ
-threeTold = withHeaps alone (sent 0 x ∷ sent 0 y ∷ sent 0 z ∷ []) []
+threeTold = spreading (sent 0 x ∷ sent 0 y ∷ sent 0 z ∷ []) []
 
 abbrev manyTold : Node ℕ
-manyTold = withHeaps alone (replicate 10 (sent 0 x)) (replicate 70 (sent 0 (dead 0)))
+manyTold = spreading (replicate 10 (sent 0 x)) (replicate 70 (sent 0 (dead 0)))
 
 abbrev heapFull : Node ℕ
-heapFull = withHeaps alone (replicate 128 (sent 0 x)) []
+heapFull = spreading (replicate 128 (sent 0 x)) []
 
 abbrev listFull : Node ℕ
 listFull = node (among (hosts 64) 0) [] []
 
 -- and one that isn't listed has died at n
 abbrev fullAfterADeath : ℕ → Node ℕ
-fullAfterADeath n = withHeaps listFull [] (sent 0 (says Deceased (host 64) n) ∷ [])
+fullAfterADeath n = withDisseminator listFull (record { alive = []; deceased = (sent 0 (says Deceased (host 64) n) ∷ []) })
 
 abbrev timersFull : Node ℕ
 timersFull = withTimers alone (replicate 16 (record { addr = C; number = 1; since = 2 }))
@@ -162,31 +171,31 @@ wrongs =
     ∷ (wrong.writtenFromTheBeginning is-not packed
     seen (λ p ms. look.each look.ofGossip (p ms)) at (letter x ∷ letter y ∷ []) yet-at (letter x ∷ []))
     -- the refusals of the rules
-    ∷ (wrong.numberComesRound is-not suspected ipv4 seen (λ p n. ofRule (p own n) alone []) at last-number yet-at 6)
+    ∷ (wrong.numberComesRound is-not ruleOf Suspected seen (λ p n. ofRule (p own n) alone []) at last-number yet-at 6)
     ∷ (wrong.oldestEnds is-not declare ipv4 seen (λ p s. ofDetector (p B 4 20) s) at timersFull yet-at alone)
-    ∷ (wrong.roomBeforeNumber is-not joined ipv4
+    ∷ (wrong.roomBeforeNumber is-not ruleOf Joined
     seen (λ p n. ofRule (p (host 64) 0) (fullAfterADeath n) []) at last-number yet-at 7)
-    ∷ (wrong.pushedBeforeAdded is-not enter ipv4 seen (λ p ds. ofRule (p B 0) heapFull ds) at [] yet-at (0 ∷ []))
+    ∷ (wrong.pushedBeforeAdded is-not entered seen (λ p ds. ofRule (p B 0) heapFull ds) at [] yet-at (0 ∷ []))
     ∷ (wrong.drawnBeforeRoom is-not add eqb
     seen (λ p ds. look.ofAnswer look.ofMembers (p (host 64) 0 (listFull .members) ds)) at [] yet-at (0 ∷ []))
     -- soundness
     ∷ (wrong.orderOnlyCounted is-not soundMembers ipv4 seen ofList at ordersOwnTwice yet-at withB state.Alive 0)
     ∷ (wrong.emptiedListRefused is-not soundMembers ipv4 seen ofList at emptied yet-at alone)
     ∷ (wrong.anySizeInBounds is-not soundEntry ipv4
-    seen (λ p size. look.ofTest (p AliveKind (record { gossip = x; sends = 0; size = size }))) at 33 yet-at 32)
-    ∷ (wrong.sent22Refused is-not soundEntry ipv4 seen (λ p n. look.ofTest (p AliveKind (sent n x))) at 22 yet-at 21)
+    seen (λ p size. look.ofTest (p kind.Alive (record { gossip = x; sends = 0; size = size }))) at 33 yet-at 32)
+    ∷ (wrong.sent22Refused is-not soundEntry ipv4 seen (λ p n. look.ofTest (p kind.Alive (sent n x))) at 22 yet-at 21)
     ∷ (wrong.senderNotTested is-not validGossip ipv4
     seen (λ p from. look.ofTest (p (record { event = Joined from B 0 }))) at address-end yet-at C)
     -- the heap and choosing
     ∷ (wrong.stopsAPlaceEarly is-not push unused sendsOf
     seen (λ p es. look.each look.ofEntry (p es (sent 1 y))) at (sent 2 x ∷ []) yet-at (sent 0 x ∷ sent 2 x ∷ sent 2 z ∷ []))
     ∷ (wrong.lastStopsAtAnEqual is-not removeTop unused sendsOf
-    seen (λ p es. look.each look.ofEntry (p es)) at (threeTold .alive) yet-at (sent 0 x ∷ sent 1 y ∷ sent 2 z ∷ []))
+    seen (λ p es. look.each look.ofEntry (p es)) at (threeTold .disseminator .alive) yet-at (sent 0 x ∷ sent 1 y ∷ sent 2 z ∷ []))
     ∷ (wrong.sharesOfTheWhole is-not termsOf seen (λ p n. look.ofTerms (p n 1400 3)) at 6 yet-at 0)
     ∷ (wrong.sizeNotTested is-not choose ipv4
-    seen (λ p (s : Node ℕ). look.itself (length (p (termsOf 64 1400 1) (s .alive) (s .deceased) .chosen))) at manyTold yet-at threeTold)
-    ∷ (wrong.lastOnesDropped is-not choose ipv4 seen (λ p n. look.ofChoice (p (termsOf n 1400 3) (threeTold .alive) [])) at 2 yet-at 6)
-    ∷ (wrong.greatestDeath is-not death ipv4 seen (λ p (s : Node ℕ). look.ofOption (p B (s .deceased))) at buriedTwice yet-at buried)
+    seen (λ p (s : Node ℕ). look.itself (length (p (termsOf 64 1400 1) (s .disseminator .alive) (s .disseminator .deceased) .chosen))) at manyTold yet-at threeTold)
+    ∷ (wrong.lastOnesDropped is-not choose ipv4 seen (λ p n. look.ofChoice (p (termsOf n 1400 3) (threeTold .disseminator .alive) [])) at 2 yet-at 6)
+    ∷ (wrong.greatestDeath is-not death ipv4 seen (λ p (s : Node ℕ). look.ofOption (p B (s .disseminator .deceased))) at buriedTwice yet-at buried)
     -- list and order
     ∷ (wrong.updateAdds is-not update eqb seen (λ p a. look.ofMembers (p (member a state.Alive 1) (withB state.Alive 0 .members))) at C yet-at B)
     ∷ (wrong.eachPickedOnce is-not pickFrom eqb 0
@@ -196,12 +205,12 @@ wrongs =
     ∷ (wrong.givesUpAfterTwoLooks is-not pickFrom eqb 0
     seen (λ p (s : Node ℕ). look.ofAnswer look.ofPicked (p own none 1 (s .members) (0 ∷ 1 ∷ []))) at beforeOwn yet-at beforeC)
     -- handler
-    ∷ (wrong.deathForgotten is-not joined ipv4 seen (λ p s. ofRule (p B 2) s (0 ∷ [])) at buried yet-at alone)
-    ∷ (wrong.raisedToAlive is-not joined ipv4 seen (λ p st. ofRule (p B 5) (withB st 4) []) at state.Suspected yet-at state.Alive)
-    ∷ (wrong.recoveredAtAnEqual is-not recovered ipv4 seen (λ p n. ofRule (p B n) (withB state.Suspected 4) []) at 4 yet-at 5)
-    ∷ (wrong.recoveredKeepsTheState is-not recovered ipv4 seen (λ p st. ofRule (p B 5) (withB st 4) []) at state.Suspected yet-at state.Alive)
-    ∷ (wrong.ownRecordMoved is-not suspected ipv4 seen (λ p a. ofRule (p a 0) (withB state.Alive 0) []) at own yet-at B)
-    ∷ (wrong.ownIsSpared is-not deceased ipv4 seen (λ p a. ofRule (p a 0) (withB state.Alive 0) []) at own yet-at B)
+    ∷ (wrong.deathForgotten is-not ruleOf Joined seen (λ p s. ofRule (p B 2) s (0 ∷ [])) at buried yet-at alone)
+    ∷ (wrong.raisedToAlive is-not ruleOf Joined seen (λ p st. ofRule (p B 5) (withB st 4) []) at state.Suspected yet-at state.Alive)
+    ∷ (wrong.recoveredAtAnEqual is-not ruleOf Recovered seen (λ p n. ofRule (p B n) (withB state.Suspected 4) []) at 4 yet-at 5)
+    ∷ (wrong.recoveredKeepsTheState is-not ruleOf Recovered seen (λ p st. ofRule (p B 5) (withB st 4) []) at state.Suspected yet-at state.Alive)
+    ∷ (wrong.ownRecordMoved is-not ruleOf Suspected seen (λ p a. ofRule (p a 0) (withB state.Alive 0) []) at own yet-at B)
+    ∷ (wrong.ownIsSpared is-not ruleOf Deceased seen (λ p a. ofRule (p a 0) (withB state.Alive 0) []) at own yet-at B)
     ∷ (wrong.stopsAtNoEvent is-not gossip ipv4
     seen (λ p gs. ofRule (p gs) alone (0 ∷ [])) at (nothing ∷ x ∷ []) yet-at (x ∷ nothing ∷ []))
     ∷ (wrong.noEventTakenForJoined is-not item ipv4 seen (λ p e. ofRule (p e) alone (0 ∷ [])) at Nothing yet-at Joined own B 0)
@@ -217,13 +226,13 @@ wrongs =
     ∷ (wrong.staysInDeclaring is-not declare ipv4 seen (λ p s. ofDetector (p B 4 20) s) at alone yet-at timersFull)
     -- what demand 3 shuts out
     ∷ (wrong.enteredTwice is-not added eqb seen (λ p d. look.ofMembers (p C 0 d (withB state.Alive 0 .members))) at 0 yet-at 1)
-    ∷ (wrong.olderRecoveryTaken is-not recovered ipv4 seen (λ p n. ofRule (p B n) (withB state.Suspected 4) []) at 3 yet-at 5)
+    ∷ (wrong.olderRecoveryTaken is-not ruleOf Recovered seen (λ p n. ofRule (p B n) (withB state.Suspected 4) []) at 3 yet-at 5)
     ∷ (wrong.heldNumberWritten is-not suspect ipv4 seen (λ p n. ofRule (p B n) (withB state.Pending 5) []) at 4 yet-at 5)
     ∷ (wrong.zeroWritten is-not suspect ipv4 seen (λ p n. ofRule (p B n) (withB state.Pending 5) []) at 4 yet-at 0)
     ∷ (wrong.pingedElsewhere is-not pinged ipv4 seen (λ p picks. look.ofStepped (p 20 [] (withB state.Alive 0) picks)) at (B ∷ []) yet-at [])
-    ∷ (wrong.suspicionRemoves is-not suspected ipv4 seen (λ p n. ofRule (p B n) (withB state.Alive 4) []) at 4 yet-at 3)
-    ∷ (wrong.olderDeathTaken is-not deceased ipv4 seen (λ p n. ofRule (p B n) (withB state.Alive 4) []) at 3 yet-at 2)
-    ∷ (wrong.anyDeathTaken is-not deceased ipv4 seen (λ p n. ofRule (p B n) (withB state.Alive 4) []) at 2 yet-at 4)
+    ∷ (wrong.suspicionRemoves is-not ruleOf Suspected seen (λ p n. ofRule (p B n) (withB state.Alive 4) []) at 4 yet-at 3)
+    ∷ (wrong.olderDeathTaken is-not ruleOf Deceased seen (λ p n. ofRule (p B n) (withB state.Alive 4) []) at 3 yet-at 2)
+    ∷ (wrong.anyDeathTaken is-not ruleOf Deceased seen (λ p n. ofRule (p B n) (withB state.Alive 4) []) at 2 yet-at 4)
     ∷ []
 
 -- what the test says of a row holds of it
@@ -238,7 +247,7 @@ all-told (w ∷ ws) e = let p = and-split (told w) (allTold ws) e in both w (p .
         (told-apart (run program far) (run rule far) (p .0), told-equal (run program near) (run rule near) (p .1))
 
 pub differ : All wrongs
-unfolding when swap leastFrom leastPower limitOf varintFrom varintLength numberSize sizeOver sizeOf digits textLength partsOf sameGossip climbIn climb lower downIn down push sinkTop removeTop allBelow termsOf wasNoted takeTop tryHeap tryAlive tryDeceased over rounds choose orElse death shuffle advance added add remove update seek pickFrom stored loaded quiet andMore plusOne deathPlusOne pushed emitAlive emitDeceased change leave spread enter joinedAt joined recovered believed suspectedOther suspected deceased admit answerTo handle isOver due pinged sendPing heard waited suspect asked pickGroup sendPingReq declare inRange positioned validGossip soundEntry soundHeap soundMembers soundTimers sound validAction validState addPeer message detect endTimer
+unfolding when swap leastFrom leastPower limitOf varintFrom varintLength numberSize sizeOver sizeOf digits textLength partsOf sameGossip climbIn climb lower downIn down push sinkTop removeTop allBelow termsOf wasNoted takeTop tryHeap tryAlive tryDeceased over rounds choose orElse death shuffle advance added add remove update seek pickFrom stored loaded quiet andMore pushed emit change leave spread joinedAt joined recovered believed suspectedOther suspected deceased judgeSender listAfter newsOf act item admit answerTo handle isOver due pinged sendPing heard waited suspect asked pickGroup sendPingReq declare inRange positioned validGossip soundEntry soundHeap soundMembers soundTimers sound validAction validState addPeer message detect endTimer
 differ = all-told wrongs refl
 
 -- and each contract admits these inputs, since each node is sound

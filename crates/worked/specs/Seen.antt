@@ -4,7 +4,7 @@ use mathlib.Core.Path.{_≡_, refl, ap, sym, _∙_}
 use mathlib.Core.Bool.{Bool, true, false, not, _&&_}
 use mathlib.Core.List.{List, [], _∷_, _++_}
 use mathlib.Core.Option.{Option, none, some}
-use Prim.Native.Nat.{ℕ, _+_}
+use Prim.Native.Nat.{ℕ}
 use native.Mathlib.Omega.{arith}
 use lib.ListN.{length}
 use lib.Dec.{eqb}
@@ -15,9 +15,9 @@ use Rattle.model.specs.declared.State.the-variants as state
 use Rattle.model.specs.declared.Reply.{Reply}
 use Rattle.model.specs.declared.Reply.the-variants.{Done, Already, NotDue, Refused}
 use Rattle.model.specs.Rows.{one}
-use Rattle.model.specs.Bools.{and-split}
+use Rattle.laws.specs.Bools.{and-split}
 use Rattle.model.specs.Answers.{Answer, done, refused, numberOf}
-use Rattle.model.specs.IPv4.{ipv4}
+use Rattle.address.specs.IPv4.{ipv4}
 use Rattle.model.specs.Words.{Gossip, Entry, Member, Timer, Wait, WaitState, SendingPing, WaitingForPingAck, SendingPingReq, WaitingForPingReqAck, Declaring, Action, Ping, PingReq, Ack, Message, partsOf}
 use Rattle.model.specs.Choose.{Terms, Choice}
 use Rattle.model.specs.Members.{Members, Picked}
@@ -98,7 +98,7 @@ abbrev pub ofTimer : Timer ℕ → List ℕ
 ofTimer t = t .addr ∷ t .number ∷ t .since ∷ []
 
 abbrev pub ofNode : Node ℕ → List ℕ
-ofNode s = ofMembers (s .members) ++ counted ofEntry (s .alive) ++ counted ofEntry (s .deceased) ++ counted ofTimer (s .timers)
+ofNode s = ofMembers (s .members) ++ counted ofEntry (s .disseminator .alive) ++ counted ofEntry (s .disseminator .deceased) ++ counted ofTimer (s .timers)
 
 abbrev pub ofOut : Out ℕ → List ℕ
 ofOut o = counted ofGossip (o .said) ++ ofNode (o .node)

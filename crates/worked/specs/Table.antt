@@ -11,14 +11,13 @@ use Rattle.model.specs.declared.State.the-variants as state
 use Rattle.model.specs.Answers.{Answer, done}
 use Rattle.model.specs.Limit.{limitOf}
 use Rattle.model.specs.Size.{sizeOf}
-use Rattle.model.specs.IPv4.{ipv4}
-use Rattle.model.specs.Words.{Joined, Suspected, Gossip, Entry}
+use Rattle.address.specs.IPv4.{ipv4}
+use Rattle.model.specs.Words.{Joined, Suspected, Deceased, Gossip, Entry}
 use Rattle.model.specs.Choose.{choose, termsOf}
 use Rattle.model.specs.Members as list
 use Rattle.model.specs.Node.{lists, numbered, stateOf}
-use Rattle.model.specs.Handler.{suspected, deceased}
 use Rattle.model.specs.Detector.{sendPing, Stepped}
-use Rattle.worked.specs.Cabinet.{own, B, C, host, says, member, members, order, node, withB, heapOf, ofGiven}
+use Rattle.worked.specs.Cabinet.{own, B, C, host, says, member, members, order, node, withB, heapOf, ofGiven, ruleOf}
 
 -- a case: a value and what it is
 pub data Case : Type 1 where
@@ -83,18 +82,18 @@ table =
     ∷ (termsOf 2 1400 3 .alive-share is 1)
     ∷ (choose ipv4 (termsOf 2 1400 3) (heapOf (x ∷ y ∷ z ∷ []) []) [] .from-alive is 3)
     -- "B Pending 4, Suspected 4: nothing; 5: Suspected 5"
-    ∷ (suspected ipv4 B 4 (withB state.Pending 4) [] is done (record { node = withB state.Pending 4; said = [] }) [])
-    ∷ (ofGiven (λ o. numbered ipv4 B (o .node)) (suspected ipv4 B 5 (withB state.Pending 4) []) is some 5)
-    ∷ (ofGiven (λ o. stateOf ipv4 B (o .node)) (suspected ipv4 B 5 (withB state.Pending 4) []) is some state.Suspected)
-    ∷ (ofGiven (λ o. o .said) (suspected ipv4 B 5 (withB state.Pending 4) []) is some (says Suspected B 5 ∷ []))
+    ∷ (ruleOf Suspected B 4 (withB state.Pending 4) [] is done (record { node = withB state.Pending 4; said = [] }) [])
+    ∷ (ofGiven (λ o. numbered ipv4 B (o .node)) (ruleOf Suspected B 5 (withB state.Pending 4) []) is some 5)
+    ∷ (ofGiven (λ o. stateOf ipv4 B (o .node)) (ruleOf Suspected B 5 (withB state.Pending 4) []) is some state.Suspected)
+    ∷ (ofGiven (λ o. o .said) (ruleOf Suspected B 5 (withB state.Pending 4) []) is some (says Suspected B 5 ∷ []))
     -- "B at 4, Deceased 3: kept; 4: gone"
-    ∷ (deceased ipv4 B 3 (withB state.Alive 4) [] is done (record { node = withB state.Alive 4; said = [] }) [])
-    ∷ (ofGiven (λ o. lists ipv4 B (o .node)) (deceased ipv4 B 4 (withB state.Alive 4) []) is some false)
+    ∷ (ruleOf Deceased B 3 (withB state.Alive 4) [] is done (record { node = withB state.Alive 4; said = [] }) [])
+    ∷ (ofGiven (λ o. lists ipv4 B (o .node)) (ruleOf Deceased B 4 (withB state.Alive 4) []) is some false)
     -- the trap "moving the position when an add lands before it": C comes in at place 0, and the position stays
     ∷ (ofGiven (λ m. m .position) (list.add eqb C 0 (order (own ∷ B ∷ []) 1) (0 ∷ [])) is some 1)
     ∷ (ofGiven (λ m. m .order) (list.add eqb C 0 (order (own ∷ B ∷ []) 1) (0 ∷ [])) is some (C ∷ own ∷ B ∷ []))
     -- the trap "keeping the gossip unspent when no target is found": own alone is listed, and the gossip's one send is spent
     ∷ (map (λ e. e .sends) alone-before is (0 ∷ []))
-    ∷ (ofGiven (λ s. map (λ e. e .sends) (s .effect .node .alive)) alone is some (1 ∷ []))
+    ∷ (ofGiven (λ s. map (λ e. e .sends) (s .effect .node .disseminator .alive)) alone is some (1 ∷ []))
     ∷ (ofGiven (λ s. length (s .effect .messages)) alone is some 0)
     ∷ []

@@ -6,13 +6,13 @@ use Rattle.model.specs.Answers.{when}
 use Rattle.model.specs.Rows.{swap}
 use Rattle.model.specs.Limit.{leastFrom, leastPower, limitOf}
 use Rattle.model.specs.Size.{varintFrom, varintLength, numberSize, sizeOver, sizeOf}
-use Rattle.model.specs.IPv4.{digits, textLength}
+use Rattle.address.specs.IPv4.{digits, textLength}
 use Rattle.model.specs.Words.{partsOf, sameGossip}
 use Rattle.model.specs.Heap.{climbIn, climb, lower, downIn, down, push, sinkTop, removeTop}
 use Rattle.model.specs.Choose.{termsOf, wasNoted, takeTop, tryHeap, tryAlive, tryDeceased, over, rounds, choose}
 use Rattle.model.specs.Members.{shuffle, advance, added, add, remove, update, seek, pickFrom}
-use Rattle.model.specs.Node.{quiet, pushed, emitAlive, emitDeceased, change, leave, spread}
-use Rattle.model.specs.Handler.{believed, suspectedOther, suspected, deceased}
+use Rattle.model.specs.Node.{quiet, pushed, emit, change, leave, spread}
+use Rattle.model.specs.Handler.{believed, suspectedOther, suspected, deceased, listAfter, newsOf, act, item}
 use Rattle.model.specs.Detector.{pinged, sendPing}
 use Rattle.worked.specs.Table.{Case, Holds, table}
 
@@ -22,7 +22,7 @@ pub data All : List Case → Type 1 where
 
 infixr 10 _and_
 pub worked : All table
-unfolding when swap leastFrom leastPower limitOf varintFrom varintLength numberSize sizeOver sizeOf digits textLength partsOf sameGossip climbIn climb lower downIn down push sinkTop removeTop termsOf wasNoted takeTop tryHeap tryAlive tryDeceased over rounds choose shuffle advance added add remove update seek pickFrom quiet pushed emitAlive emitDeceased change leave spread believed suspectedOther suspected deceased pinged sendPing
+unfolding when swap leastFrom leastPower limitOf varintFrom varintLength numberSize sizeOver sizeOf digits textLength partsOf sameGossip climbIn climb lower downIn down push sinkTop removeTop termsOf wasNoted takeTop tryHeap tryAlive tryDeceased over rounds choose shuffle advance added add remove update seek pickFrom quiet pushed emit change leave spread believed suspectedOther suspected deceased listAfter newsOf act item pinged sendPing
 worked =
     refl and refl and refl and refl and refl and refl and refl and refl and refl and refl and refl and refl
     and refl and refl and refl and refl and refl and refl and refl and refl and refl and refl and refl and refl and refl and refl and end

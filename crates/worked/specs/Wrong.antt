@@ -7,23 +7,30 @@ use mathlib.Core.Option.{Option, none, some}
 use Prim.Native.Nat.{ℕ, zero, suc, _+_, _-_, _*_, _%_, _^_, max}
 use lib.ListN.{length, getD, set, replicate, take, drop}
 use lib.Dec.{eqb, ltb, leb}
+use Rattle.model.specs.declared.Kind.{Kind}
+use Rattle.model.specs.declared.Kind.the-variants as kind
 use Rattle.model.specs.declared.State.the-variants as state
-use Rattle.model.specs.declared.Refusal.the-variants.{Unsound, ShortRow, ManyRecords, AddressRange, ListFull, TimersFull}
+use Rattle.model.specs.declared.Refusal.the-variants.{Unsound, ShortRow, ManyRecords, AddressRange, NumberEnd, ListFull, TimersFull}
 use Rattle.model.specs.declared.Reply.the-variants.{NotDue}
 use Rattle.model.specs.Rows.{pick, every, has, swap}
 use Rattle.model.specs.Bounds.{list-places, timer-places, message-records, most-sends, Room, message-room, timer-room}
 use Rattle.model.specs.Answers.{Answer, done, refused, andThen, when, draw}
-use Rattle.model.specs.IPv4.{ipv4}
+use Rattle.address.specs.IPv4.{ipv4}
 use Rattle.model.specs.Words.{Event, Joined, Recovered, Suspected, Deceased, Gossip, Entry, unused, sendsOf, Member, Wait, WaitState, SendingPing, Declaring, Action, Ping, PingReq, Ack, Message, partsOf}
 use Rattle.model.specs.Heap.{parent, sink}
 use Rattle.model.specs.Choose.{Terms, Choice, choose, deathIn}
 use Rattle.model.specs.Members as list
-use Rattle.model.specs.Node.{Node, Out, Effect, Stored, loaded, withMembers, withTimers, quiet, andMore, plusOne, deathPlusOne, emitAlive, emitDeceased, lists, numbered, stateOf, heldDeath, change, leave}
-use Rattle.model.specs.Handler.{says, enter, joinedAt, joined, suspectedOther, item, gossip, admit, ackTarget, answerTo, handle}
+use Rattle.model.specs.Node.{Node, Out, Effect, Stored, loaded, withMembers, withTimers, quiet, andMore, plusOne, deathPlusOne, emit, lists, numbered, stateOf, heldDeath, change, leave}
+use Rattle.model.specs.Handler.{Enter, joinedAt, suspectedOther, act, item, gossip, admit, ackTarget, answerTo, handle}
 use Rattle.model.specs.Detector.{Stepped, due, step, enters, moves, pinged, pickGroup, suspect, asked, firstOver}
-use Rattle.model.specs.Sound.{Kind, ofKind, distinct, positioned, permutes, validGossip, soundEntry, isNoMember, sound}
+use Rattle.model.specs.Sound.{ofKind, distinct, positioned, permutes, validGossip, soundEntry, isNoMember, sound}
 use Rattle.model.specs.Calls.{Outcome, StepOutcome, firstOf, short, unchanged, refuses, orAlready, whenDue, written, validAction, kept, joins, keptStep, stepTests, endsAt}
 use Rattle.worked.specs.Seen.{stateNumber}
+
+-- where a number plus one is needed
+abbrev orStop : Option ℕ → (ℕ → Answer (Out ℕ)) → Answer (Out ℕ)
+orStop none k = refused NumberEnd
+orStop (some n) k = k n
 
 -- The calls.
 
@@ -81,8 +88,8 @@ writtenFromTheBeginning (m ∷ ms) = written (writtenFromTheBeginning ms) (m .go
 abbrev pub numberComesRound : ℕ → ℕ → Node ℕ → List ℕ → Answer (Out ℕ)
 numberComesRound a n s ds =
     when (eqb (s .own) a)
-    (emitAlive ipv4 (says ipv4 Recovered s (s .own) ((n + 1) % 2 ^ 64)) s ds)
-    (suspectedOther ipv4 a n s ds)
+    (emit ipv4 kind.Alive (record { event = Recovered (s .own) (s .own) ((n + 1) % 2 ^ 64) }) s ds)
+    (act ipv4 (suspectedOther ipv4 a n (s .members .table)) s ds)
 
 -- a 17th declaration ends the first
 abbrev pub oldestEnds : ℕ → ℕ → ℕ → Node ℕ → List ℕ → Answer (Stepped ℕ)
@@ -93,12 +100,12 @@ oldestEnds a n now s ds =
 -- a place is looked for before D + 1 is: 7 before 6
 abbrev pub roomBeforeNumber : ℕ → ℕ → Node ℕ → List ℕ → Answer (Out ℕ)
 roomBeforeNumber a n s ds =
-    when (not (lists ipv4 a s) && leb list-places (length (s .members .table))) (refused ListFull) (joined ipv4 a n s ds)
+    when (not (lists ipv4 a s) && leb list-places (length (s .members .table))) (refused ListFull) (item ipv4 (Joined (s .own) a n) s ds)
 
 -- the event is pushed before the address is added: 9 before 7 and 8
 abbrev pub pushedBeforeAdded : ℕ → ℕ → Node ℕ → List ℕ → Answer (Out ℕ)
 pushedBeforeAdded a n s ds =
-    andThen (emitAlive ipv4 (says ipv4 Joined s a n) s ds) λ o rest.
+    andThen (emit ipv4 kind.Alive (record { event = Joined (s .own) a n }) s ds) λ o rest.
     andThen (list.add eqb a n (o .node .members) rest) λ m rest₂.
     done (record { node = withMembers (o .node) m; said = o .said }) rest₂
 
@@ -251,45 +258,45 @@ givesUpAfterTwoLooks own e wanted m ds =
 
 -- D plays no part: what was joined is taken as it is
 abbrev pub deathForgotten : ℕ → ℕ → Node ℕ → List ℕ → Answer (Out ℕ)
-deathForgotten a n s ds = joinedAt ipv4 a n s ds
+deathForgotten a n s ds = act ipv4 (joinedAt ipv4 a n (s .members .table)) s ds
 
 -- a raised number makes Alive
 abbrev pub raisedToAlive : ℕ → ℕ → Node ℕ → List ℕ → Answer (Out ℕ)
 raisedToAlive a n s ds =
-    deathPlusOne (heldDeath ipv4 a s) λ least.
+    orStop (deathPlusOne (heldDeath ipv4 a s)) λ least.
     let raised = max least n in
     when (lists ipv4 a s)
     (when (ltb (numbered ipv4 a s) raised)
-    (emitAlive ipv4 (says ipv4 Joined s a raised) (change ipv4 a state.Alive raised s) ds)
+    (emit ipv4 kind.Alive (record { event = Joined (s .own) a raised }) (change ipv4 a state.Alive raised s) ds)
     (quiet s ds))
-    (enter ipv4 a raised s ds)
+    (act ipv4 (Enter a raised) s ds)
 
 -- an equal number recovers
 abbrev pub recoveredAtAnEqual : ℕ → ℕ → Node ℕ → List ℕ → Answer (Out ℕ)
 recoveredAtAnEqual a n s ds =
     when (lists ipv4 a s && leb (numbered ipv4 a s) n)
-    (emitAlive ipv4 (says ipv4 Recovered s a n) (change ipv4 a state.Alive n s) ds)
+    (emit ipv4 kind.Alive (record { event = Recovered (s .own) a n }) (change ipv4 a state.Alive n s) ds)
     (quiet s ds)
 
 -- the number is raised, and the state kept
 abbrev pub recoveredKeepsTheState : ℕ → ℕ → Node ℕ → List ℕ → Answer (Out ℕ)
 recoveredKeepsTheState a n s ds =
     when (lists ipv4 a s && ltb (numbered ipv4 a s) n)
-    (emitAlive ipv4 (says ipv4 Recovered s a n) (change ipv4 a (stateOf ipv4 a s) n s) ds)
+    (emit ipv4 kind.Alive (record { event = Recovered (s .own) a n }) (change ipv4 a (stateOf ipv4 a s) n s) ds)
     (quiet s ds)
 
 -- the own record takes the number that is spread
 abbrev pub ownRecordMoved : ℕ → ℕ → Node ℕ → List ℕ → Answer (Out ℕ)
 ownRecordMoved a n s ds =
     when (eqb (s .own) a)
-    (plusOne n λ next. emitAlive ipv4 (says ipv4 Recovered s (s .own) next) (change ipv4 (s .own) state.Alive next s) ds)
-    (suspectedOther ipv4 a n s ds)
+    (orStop (plusOne n) λ next. emit ipv4 kind.Alive (record { event = Recovered (s .own) (s .own) next }) (change ipv4 (s .own) state.Alive next s) ds)
+    (act ipv4 (suspectedOther ipv4 a n (s .members .table)) s ds)
 
 -- the own address is never removed
 abbrev pub ownIsSpared : ℕ → ℕ → Node ℕ → List ℕ → Answer (Out ℕ)
 ownIsSpared a n s ds =
     when (lists ipv4 a s && leb (numbered ipv4 a s) n && not (eqb (s .own) a))
-    (emitDeceased ipv4 (says ipv4 Deceased s a n) (leave ipv4 a s) ds)
+    (emit ipv4 kind.Deceased (record { event = Deceased (s .own) a n }) (leave ipv4 a s) ds)
     (quiet s ds)
 
 -- the records behind one of no event are not read
@@ -302,7 +309,7 @@ stopsAtNoEvent (g ∷ gs) s ds =
 abbrev pub noEventTakenForJoined : Event ℕ → Node ℕ → List ℕ → Answer (Out ℕ)
 noEventTakenForJoined e s ds =
     let p = partsOf ipv4 e in
-    pick (eqb (p .kind) 0) (joined ipv4 (p .subject) (p .number) s ds) (item ipv4 e s ds)
+    pick (eqb (p .kind) 0) (item ipv4 (Joined (p .from) (p .subject) (p .number)) s ds) (item ipv4 e s ds)
 
 -- the sender is admitted before the gossip is heard
 abbrev pub admittedBeforeTheGossip : Action ℕ → List (Gossip ℕ) → Node ℕ → List ℕ → Answer (Effect ℕ)
@@ -366,7 +373,7 @@ enteredTwice a n d m =
 abbrev pub olderRecoveryTaken : ℕ → ℕ → Node ℕ → List ℕ → Answer (Out ℕ)
 olderRecoveryTaken a n s ds =
     when (lists ipv4 a s)
-    (emitAlive ipv4 (says ipv4 Recovered s a n) (change ipv4 a state.Alive n s) ds)
+    (emit ipv4 kind.Alive (record { event = Recovered (s .own) a n }) (change ipv4 a state.Alive n s) ds)
     (quiet s ds)
 
 -- the ping-request step writes the held number, or 0, in place of the one taken with the ping
@@ -395,16 +402,16 @@ pingedElsewhere now gs s (a ∷ rest) =
 abbrev pub suspicionRemoves : ℕ → ℕ → Node ℕ → List ℕ → Answer (Out ℕ)
 suspicionRemoves a n s ds =
     when (lists ipv4 a s && leb (numbered ipv4 a s) n)
-    (emitAlive ipv4 (says ipv4 Suspected s a n) (leave ipv4 a s) ds)
+    (emit ipv4 kind.Alive (record { event = Suspected (s .own) a n }) (leave ipv4 a s) ds)
     (quiet s ds)
 
 -- a death notice takes a peer out at a number one too low, or at any number
 abbrev pub olderDeathTaken : ℕ → ℕ → Node ℕ → List ℕ → Answer (Out ℕ)
 olderDeathTaken a n s ds =
     when (lists ipv4 a s && leb (numbered ipv4 a s) (n + 1))
-    (emitDeceased ipv4 (says ipv4 Deceased s a n) (leave ipv4 a s) ds)
+    (emit ipv4 kind.Deceased (record { event = Deceased (s .own) a n }) (leave ipv4 a s) ds)
     (quiet s ds)
 
 abbrev pub anyDeathTaken : ℕ → ℕ → Node ℕ → List ℕ → Answer (Out ℕ)
 anyDeathTaken a n s ds =
-    when (lists ipv4 a s) (emitDeceased ipv4 (says ipv4 Deceased s a n) (leave ipv4 a s) ds) (quiet s ds)
+    when (lists ipv4 a s) (emit ipv4 kind.Deceased (record { event = Deceased (s .own) a n }) (leave ipv4 a s) ds) (quiet s ds)

@@ -2,7 +2,7 @@
 -- Assumes nothing.
 use borrow.Author.Needs.{needs}
 use borrow.Author.Tests.{lt-ltb, le-ltb}
-use Rattle.model.specs.IPv4.{digits}
+use Rattle.address.specs.IPv4.{digits}
 use Rattle.address.proofs.digits.Statement.{statement}
 use Rattle.address.proofs.digits.Tie as tie
 

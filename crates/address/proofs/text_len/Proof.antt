@@ -4,8 +4,8 @@ use mathlib.Core.Path.{_≡_, _∙_, ap}
 use Prim.Native.Nat.{ℕ, _≤_}
 use native.Mathlib.Omega.{arith}
 use borrow.Author.Needs.{needs}
-use Rattle.model.specs.IPv4.{textLength}
-use Rattle.model.specs.TextLaws.{text-length}
+use Rattle.address.specs.IPv4.{textLength}
+use Rattle.address.specs.TextLaws.{text-length}
 use Rattle.address.proofs.text_len.Statement.{statement}
 use Rattle.address.proofs.text_len.Tie as tie
 

@@ -6,7 +6,7 @@ use mathlib.Core.Option.{some}
 use native.Mathlib.Omega.{arith}
 use borrow.Author.Needs.{needs}
 use borrow.Author.Tests.{not-true, not-false}
-use Rattle.model.specs.IPv4.{ipv4}
+use Rattle.address.specs.Here.{here}
 use Rattle.model.specs.Detector as D
 use Rattle.model.specs.Sound.{sound}
 use Rattle.timers.specs.Views.{timersView}
@@ -17,7 +17,7 @@ use Rattle.detection.proofs.TimerEnds.{timer-short, timer-room-there, e
 use Rattle.detection.proofs.end_timer.Statement.{statement}
 use Rattle.detection.proofs.end_timer.Tie as tie
 
-sound-there : (c : tie.Else1) → sound ipv4 (storedView (c .before .before .before .args .node)) ≡ true
+sound-there : (c : tie.Else1) → sound here (storedView (c .before .before .before .args .node)) ≡ true
 sound-there c = sym (c .before .sound .ensures) ∙ not-false _ (c .if1 .left)
 
 ready-there : (c : tie.Else1) → Ready (c .before .before .before .args .node)
@@ -48,7 +48,7 @@ first-over-requires : tie.Need-first-over-requires
 first-over-requires c κs = ready-there (c .before .before .before .before) .timers .few
 
 -- the timer that is over
-over-there : (c : tie.After-ending) → D.firstOver ipv4 (c .before .before .before .before .before .before .before .before .before .before .args .node .settings .«suspect_timeout») (c .before .before .before .before .before .before .before .before .before .before .args .tick) (timersView (c .before .before .before .before .before .before .before .before .before .before .args .node .timers)) ≡ some (c .ending .given .0 .0)
+over-there : (c : tie.After-ending) → D.firstOver here (c .before .before .before .before .before .before .before .before .before .before .args .node .settings .«suspect_timeout») (c .before .before .before .before .before .before .before .before .before .before .args .tick) (timersView (c .before .before .before .before .before .before .before .before .before .before .args .node .timers)) ≡ some (c .ending .given .0 .0)
 over-there c = ending-some _ _ (sym (c .before .before .first-over .ensures) ∙ c .ending .given .1)
 
 end-at-requires : tie.Need-end-at-requires

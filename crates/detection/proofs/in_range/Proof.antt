@@ -2,7 +2,7 @@
 -- Assumes nothing.
 use mathlib.Core.Path.{_≡_, ap, sym, _∙_}
 use borrow.Author.Needs.{needs}
-use Rattle.model.specs.IPv4.{ipv4}
+use Rattle.address.specs.Here.{here}
 use Rattle.model.specs.Calls.{validState}
 use Rattle.detection.specs.declared.WaitState.{WaitState}
 use Rattle.detection.specs.Views.{toState}
@@ -10,8 +10,8 @@ use Rattle.detection.proofs.in_range.Statement.{statement}
 use Rattle.detection.proofs.in_range.Tie as tie
 
 -- a state that is known is tested as such
-known : (a b : WaitState) → a ≡ b → validState ipv4 (toState b) ≡ validState ipv4 (toState a)
-known a b e = ap (λ (st : WaitState). validState ipv4 (toState st)) (sym e)
+known : (a b : WaitState) → a ≡ b → validState here (toState b) ≡ validState here (toState a)
+known a b e = ap (λ (st : WaitState). validState here (toState st)) (sym e)
 
 returns : tie.Need-returns
 unfolding validState

@@ -9,7 +9,7 @@ use borrow.Author.Needs.{needs}
 use borrow.Author.Tests.{not-true, not-false}
 use Rattle.model.specs.declared.Reply.the-variants.{Done}
 use Rattle.model.specs.Rows.{pick}
-use Rattle.model.specs.IPv4.{ipv4}
+use Rattle.address.specs.Here.{Addr, here}
 use Rattle.model.specs.Detector as D
 use Rattle.model.specs.Calls.{validState, keptStep, detect}
 use Rattle.node.specs.Rows.{Ready}
@@ -27,19 +27,19 @@ use Rattle.detection.proofs.step.Tie as tie
 
 -- the rule of a state that is known
 by-state : (n : Node) (w : Wait) (tick : ℕ) (draws : List ℕ) (st : WaitState) → w .state ≡ st
-    → steppedOf (keptStep ipv4 (storedView n) (toWait w) draws (D.step ipv4 (toState st) tick (viewNode n) draws))
-    ≡ steppedOf (keptStep ipv4 (storedView n) (toWait w) draws (D.step ipv4 (toState (w .state)) tick (viewNode n) draws))
+    → steppedOf (keptStep here (storedView n) (toWait w) draws (D.step here (toState st) tick (viewNode n) draws))
+    ≡ steppedOf (keptStep here (storedView n) (toWait w) draws (D.step here (toState (w .state)) tick (viewNode n) draws))
 by-state n w tick draws st e =
-    ap (λ (x : WaitState). steppedOf (keptStep ipv4 (storedView n) (toWait w) draws (D.step ipv4 (toState x) tick (viewNode n) draws))) (sym e)
+    ap (λ (x : WaitState). steppedOf (keptStep here (storedView n) (toWait w) draws (D.step here (toState x) tick (viewNode n) draws))) (sym e)
 
 -- its address is in range
-in-range : (w : Wait) (a k : ℕ) → w .state ≡ state.SendingPingReq a k → validState ipv4 (toState (w .state)) ≡ true → ipv4 .valid a ≡ true
+in-range : (w : Wait) (a : Addr) (k : ℕ) → w .state ≡ state.SendingPingReq a k → validState here (toState (w .state)) ≡ true → here .valid a ≡ true
 unfolding validState
-in-range w a k e v = ap (λ (x : WaitState). validState ipv4 (toState x)) (sym e) ∙ v
+in-range w a k e v = ap (λ (x : WaitState). validState here (toState x)) (sym e) ∙ v
 
 -- as the node says
-heard-there : (n : Node) (a : ℕ) (next : WaitState) (tick : ℕ)
-    → _≡_ {A = Wait} (record { state = pick (heardIn (n .members) a) state.SendingPing next; since = tick }) (record { state = pick (D.heard ipv4 a (viewNode n)) state.SendingPing next; since = tick })
+heard-there : (n : Node) (a : Addr) (next : WaitState) (tick : ℕ)
+    → _≡_ {A = Wait} (record { state = pick (heardIn (n .members) a) state.SendingPing next; since = tick }) (record { state = pick (D.heard here a (viewNode n)) state.SendingPing next; since = tick })
 unfolding D.heard viewNode
 heard-there n a next tick = refl
 
@@ -52,9 +52,9 @@ ready-there e = e .before .before .test-step .ensures .ready (due-there e)
 
 -- what its rule gives is what the call gives, and keeps to the rows
 by-rule : (e : tie.Else1) (st : WaitState) → e .before .before .before .before .args .wait .state ≡ st → (r : Stepped)
-    → r ≡ steppedOf (keptStep ipv4 (storedView (e .before .before .before .before .args .node)) (toWait (e .before .before .before .before .args .wait)) (e .before .before .before .before .args .draws .now) (D.step ipv4 (toState st) (e .before .before .before .before .args .tick) (viewNode (e .before .before .before .before .args .node)) (e .before .before .before .before .args .draws .now)))
+    → r ≡ steppedOf (keptStep here (storedView (e .before .before .before .before .args .node)) (toWait (e .before .before .before .before .args .wait)) (e .before .before .before .before .args .draws .now) (D.step here (toState st) (e .before .before .before .before .args .tick) (viewNode (e .before .before .before .before .args .node)) (e .before .before .before .before .args .draws .now)))
     → r .written ≤ 256 → r .reported ≤ 1
-    → (r ≡ steppedOf (detect ipv4 (storedView (e .before .before .before .before .args .node)) (toWait (e .before .before .before .before .args .wait)) (e .before .before .before .before .args .tick) (e .before .before .before .before .args .draws .now) (record { gossip = e .before .before .before .before .args .gossip-room; events = e .before .before .before .before .args .event-room })))
+    → (r ≡ steppedOf (detect here (storedView (e .before .before .before .before .args .node)) (toWait (e .before .before .before .before .args .wait)) (e .before .before .before .before .args .tick) (e .before .before .before .before .args .draws .now) (record { gossip = e .before .before .before .before .args .gossip-room; events = e .before .before .before .before .args .event-room })))
     × (r .written ≤ e .before .before .before .before .args .gossip-room) × (r .written ≤ 256) × (r .reported ≤ e .before .before .before .before .args .event-room) × (r .reported ≤ 1)
 by-rule e st z r q b d =
     let a = e .before .before .before .before .args in

@@ -9,7 +9,7 @@ use borrow.Author.Tests.{not-true, not-false}
 use Rattle.model.specs.declared.Refusal.the-variants.{Unsound, ShortRow, AddressRange}
 use Rattle.model.specs.declared.Reply.the-variants.{Refused, NotDue}
 use Rattle.model.specs.Rows.{one}
-use Rattle.model.specs.IPv4.{ipv4}
+use Rattle.address.specs.Here.{here}
 use Rattle.model.specs.Detector as D
 use Rattle.model.specs.Sound.{sound}
 use Rattle.model.specs.Calls.{validState, short}
@@ -22,13 +22,13 @@ use Rattle.detection.proofs.test_step.Statement.{statement}
 use Rattle.detection.proofs.test_step.Tie as tie
 
 -- what has passed where each test was left
-sound-there : (c : tie.Else1) → sound ipv4 (storedView (c .before .before .before .args .node)) ≡ true
+sound-there : (c : tie.Else1) → sound here (storedView (c .before .before .before .args .node)) ≡ true
 sound-there c = sym (c .before .sound .ensures) ∙ not-false _ (c .if1 .left)
 
 rows-there : (c : tie.Else3) → short step-room (record { gossip = c .before .before .before .before .before .args .gossip-room; events = c .before .before .before .before .before .args .event-room }) ≡ false
 rows-there c = room-there _ _ (c .before .if2 .left) (c .if3 .left)
 
-valid-there : (c : tie.Else4) → validState ipv4 (toState (c .before .before .before .before .before .before .before .args .wait .state)) ≡ true
+valid-there : (c : tie.Else4) → validState here (toState (c .before .before .before .before .before .before .before .args .wait .state)) ≡ true
 valid-there c = sym (c .before .in-range .ensures) ∙ not-false _ (c .if4 .left)
 
 -- is the wait over?

@@ -2,7 +2,7 @@
 -- Assumes nothing.
 use mathlib.Core.Path.{_≡_, sym, _∙_}
 use Prim.Native.Nat.{ℕ, _≤_}
-use Rattle.model.specs.IPv4.{ipv4}
+use Rattle.address.specs.Here.{here}
 use Rattle.model.specs.Choose.{choose}
 use Rattle.heap.specs.declared.Heap.{Heap}
 use Rattle.heap.specs.Views.{heapView}
@@ -21,7 +21,7 @@ choice a d n living dead = record { alive = a; deceased = d; chosen = n; «from_
 
 abbrev Inv-loop : tie.InvT-loop
 Inv-loop t a₀ d₀ n₀ from-alive₀ from-deceased₀ left₀ a d n from-alive from-deceased left =
-    (left ≤ 64) × Going t (choose ipv4 (toTerms t) (heapView a₀) (heapView d₀)) (choice a d n from-alive from-deceased) left
+    (left ≤ 64) × Going t (choose here (toTerms t) (heapView a₀) (heapView d₀)) (choice a d n from-alive from-deceased) left
 
 abbrev μ-loop : tie.MeasureT-loop
 μ-loop t a₀ d₀ n₀ from-alive₀ from-deceased₀ left₀ a d n from-alive from-deceased left = left

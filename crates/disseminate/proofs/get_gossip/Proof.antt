@@ -4,10 +4,10 @@ use mathlib.Core.Path.{_≡_, _∙_, ap}
 use Prim.Native.Nat.{ℕ, _≤_}
 use native.Mathlib.Omega.{arith}
 use borrow.Author.Needs.{needs}
-use Rattle.model.specs.IPv4.{ipv4}
+use Rattle.address.specs.Here.{here}
 use Rattle.model.specs.Choose.{termsOf, choose}
-use Rattle.model.specs.LimitLaws.{limit-most}
-use Rattle.model.specs.Good.{ranges}
+use Rattle.laws_choose.specs.LimitLaws.{limit-most}
+use Rattle.laws.specs.Ranges.{ranges}
 use Rattle.heap.specs.Views.{heapView}
 use Rattle.disseminate.specs.declared.Terms.{Terms}
 use Rattle.disseminate.specs.Views.{toTerms, fromTerms, packChoice}
@@ -41,7 +41,7 @@ returns c =
     let l = c .before .before in
     let a = l .before .args in
     c .choose .ensures
-    ∙ ap (λ (t : Terms). packChoice (choose ipv4 (toTerms t) (heapView (a .alive)) (heapView (a .deceased))))
+    ∙ ap (λ (t : Terms). packChoice (choose here (toTerms t) (heapView (a .alive)) (heapView (a .deceased))))
     (c .before .terms-of .ensures
     ∙ ap (λ (n : ℕ). fromTerms (termsOf (a .s .«max_selected») (a .s .«max_size») n)) (l .send-limit .ensures))
 

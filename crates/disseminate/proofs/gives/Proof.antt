@@ -2,7 +2,7 @@
 -- Assumes nothing.
 use mathlib.Core.Path.{sym, ap}
 use native.Mathlib.Nat.{pos-of-ne-zero}
-use Rattle.model.specs.IPv4.{ipv4}
+use Rattle.address.specs.Here.{here}
 use Rattle.model.specs.Choose.{gave}
 use Rattle.disseminate.proofs.Stepping.{empty, in-size, top-small, gives-is}
 use borrow.Author.Needs.{needs}
@@ -12,7 +12,7 @@ use Rattle.disseminate.proofs.gives.Tie as tie
 returns : tie.Need-returns
 returns c =
     let s = c .before .before in
-    sym (ap (gave ipv4) (empty (s .args .t) (s .args .h) (s .args .n) (s .pre) (c .if1 .taken)))
+    sym (ap (gave here) (empty (s .args .t) (s .args .h) (s .args .n) (s .pre) (c .if1 .taken)))
 
 barred-requires : tie.Need-barred-requires
 barred-requires c κs =

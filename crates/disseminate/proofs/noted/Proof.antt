@@ -1,9 +1,9 @@
 -- `disseminate::noted` meets its contract: what is left of the notes gives the same answer.
 -- Assumes nothing.
 use mathlib.Core.Path.{_≡_, refl, sym, _∙_}
-use Prim.Native.Nat.{ℕ, _≤_}
+use Prim.Native.Nat.{_≤_}
 use native.Mathlib.Omega.{arith}
-use Rattle.disseminate.proofs.Noting.{was, was-here, was-other, was-apart, was-none}
+use Rattle.disseminate.proofs.Noting.{was, was-there, was-other, was-apart, was-none}
 use borrow.Author.Needs.{needs}
 use Rattle.disseminate.proofs.noted.Statement.{statement}
 use Rattle.disseminate.proofs.noted.Tie as tie
@@ -21,7 +21,7 @@ returns : tie.Need-returns Inv-loop μ-loop
 returns c =
     let l = c .before .before .before .before .before in
     let a = l .before .args in
-    sym (l .loop .inv .2 ∙ was-here (a .t1) (a .t2) (a .g) (a .sends) (l .loop .i) _ (search needs) (c .before .same-gossip .ensures) (c .if2 .taken) (search needs))
+    sym (l .loop .inv .2 ∙ was-there (a .t1) (a .t2) (a .g) (a .sends) (l .loop .i) _ (search needs) (c .before .same-gossip .ensures) (c .if2 .taken) (search needs))
 
 loop-again : tie.Need-loop-again Inv-loop μ-loop
 loop-again c =

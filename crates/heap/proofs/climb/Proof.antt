@@ -1,6 +1,6 @@
 -- `heap::climb` meets its contract: each turn is a swap of the climb, up to the place that was decided.
 -- Assumes nothing.
-use Prim.Native.Nat.{ℕ, _<_}
+use Prim.Native.Nat.{_<_}
 use lib.ListN.{getD}
 use borrow.Author.Needs.{needs}
 use Rattle.model.specs.Rows.{swap}

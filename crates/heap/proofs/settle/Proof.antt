@@ -1,7 +1,7 @@
 -- `heap::settle` meets its contract: each turn is a swap of the descent, down to the place to which the entry would climb back.
 -- Assumes nothing.
 use mathlib.Core.Path.{refl, sym, _∙_}
-use Prim.Native.Nat.{ℕ, _<_, _-_}
+use Prim.Native.Nat.{_<_, _-_}
 use lib.ListN.{getD}
 use borrow.Author.Needs.{needs}
 use Rattle.model.specs.Rows.{swap}

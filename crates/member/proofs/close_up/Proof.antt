@@ -9,7 +9,7 @@ use native.Mathlib.Numerals.{add-one}
 use lib.ListN.{length, getD, set, take, replicate}
 use lib.Seq.{take-all, getD-take, length-take-le}
 use Rattle.model.specs.Rows.{removeAt, padTo}
-use Rattle.model.specs.Pad.{length-removeAt, removeAt-before, removeAt-after, pad-step}
+use Rattle.laws.specs.Pad.{length-removeAt, removeAt-before, removeAt-after, pad-step}
 use Rattle.member.specs.declared.Member.{Member}
 use Rattle.member.specs.Views.{nobody}
 use borrow.Author.Needs.{needs}

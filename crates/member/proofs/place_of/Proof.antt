@@ -6,9 +6,9 @@ use Prim.Native.Nat.{_-_, _≤_}
 use native.Mathlib.Omega.{arith}
 use lib.ListN.{length, getD, take}
 use mathlib.Core.List.{map}
-use Rattle.model.specs.IPv4.{ipv4}
+use Rattle.address.specs.Here.{here}
 use Rattle.model.specs.Members.{addrs}
-use Rattle.model.specs.Places.{Scanned, scan-start, scan-found, scan-next, scan-end}
+use Rattle.laws_list.specs.Places.{Scanned, scan-start, scan-found, scan-next, scan-end}
 use Rattle.member.specs.Views.{toMember}
 use Rattle.member.proofs.Tables.{addrs-at, addrs-long}
 use borrow.Author.Needs.{needs}
@@ -16,31 +16,31 @@ use Rattle.member.proofs.place_of.Statement.{statement}
 use Rattle.member.proofs.place_of.Tie as tie
 
 abbrev Inv-loop : tie.InvT-loop
-Inv-loop n a table i₀ i = (i ≤ n) × Scanned (ipv4 .same) a (addrs (map toMember (take n table))) i
+Inv-loop n a table i₀ i = (i ≤ n) × Scanned (here .same) a (addrs (map toMember (take n table))) i
 
 abbrev μ-loop : tie.MeasureT-loop
 μ-loop n a table i₀ i = n - i
 
 loop-holds : tie.Need-loop-holds Inv-loop μ-loop
-loop-holds c = (omega arith, scan-start (ipv4 .same) (c .args .a) (addrs (map toMember (take (c .args .n) (c .args .t1)))))
+loop-holds c = (omega arith, scan-start (here .same) (c .args .a) (addrs (map toMember (take (c .args .n) (c .args .t1)))))
 
 returns : tie.Need-returns Inv-loop μ-loop
 returns c =
     let a = c .before .before .before .before .before .args in
     let l = c .before .before .before .before .loop in
     let n : length (addrs (map toMember (take (a .n) (a .t1)))) ≡ a .n = addrs-long (a .n) (a .t1) (omega arith) in
-    let e : ipv4 .same (a .a) (getD (addrs (map toMember (take (a .n) (a .t1)))) (l .i) 0) ≡ true =
-    ap (ipv4 .same (a .a)) (addrs-at (a .n) (a .t1) (l .i) (omega arith)) ∙ sym (c .before .same .ensures) ∙ c .if1 .taken in
-    (scan-found (ipv4 .same) (a .a) 0 (addrs (map toMember (take (a .n) (a .t1)))) (l .i) (l .inv .1) (omega arith) e, omega arith)
+    let e : here .same (a .a) (getD (addrs (map toMember (take (a .n) (a .t1)))) (l .i) (here .blank)) ≡ true =
+    ap (here .same (a .a)) (addrs-at (a .n) (a .t1) (l .i) (omega arith)) ∙ sym (c .before .same .ensures) ∙ c .if1 .taken in
+    (scan-found (here .same) (a .a) (here .blank) (addrs (map toMember (take (a .n) (a .t1)))) (l .i) (l .inv .1) (omega arith) e, omega arith)
 
 loop-again : tie.Need-loop-again Inv-loop μ-loop
 loop-again c =
     let a = c .before .before .before .before .before .args in
     let l = c .before .before .before .before .loop in
     let n : length (addrs (map toMember (take (a .n) (a .t1)))) ≡ a .n = addrs-long (a .n) (a .t1) (omega arith) in
-    let e : ipv4 .same (a .a) (getD (addrs (map toMember (take (a .n) (a .t1)))) (l .i) 0) ≡ false =
-    ap (ipv4 .same (a .a)) (addrs-at (a .n) (a .t1) (l .i) (omega arith)) ∙ sym (c .before .same .ensures) ∙ c .if1 .left in
-    (omega arith, scan-next (ipv4 .same) (a .a) 0 (addrs (map toMember (take (a .n) (a .t1)))) (l .i) (l .inv .1) (omega arith) e)
+    let e : here .same (a .a) (getD (addrs (map toMember (take (a .n) (a .t1)))) (l .i) (here .blank)) ≡ false =
+    ap (here .same (a .a)) (addrs-at (a .n) (a .t1) (l .i) (omega arith)) ∙ sym (c .before .same .ensures) ∙ c .if1 .left in
+    (omega arith, scan-next (here .same) (a .a) (here .blank) (addrs (map toMember (take (a .n) (a .t1)))) (l .i) (l .inv .1) (omega arith) e)
 
 returns-2 : tie.Need-returns-2 Inv-loop μ-loop
 returns-2 c =
@@ -48,7 +48,7 @@ returns-2 c =
     let l = c .before .loop in
     let n : length (addrs (map toMember (take (a .n) (a .t1)))) ≡ a .n = addrs-long (a .n) (a .t1) (omega arith) in
     let e : l .i ≡ a .n = omega arith in
-    (sym e ∙ scan-end (ipv4 .same) (a .a) (addrs (map toMember (take (a .n) (a .t1)))) (l .i) (l .inv .1) (omega arith), omega arith)
+    (sym e ∙ scan-end (here .same) (a .a) (addrs (map toMember (take (a .n) (a .t1)))) (l .i) (l .inv .1) (omega arith), omega arith)
 
 pub place-of-spec : {M : Type 1} → statement M
 place-of-spec =

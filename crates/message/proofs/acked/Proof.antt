@@ -1,33 +1,31 @@
 -- `message::acked` meets its contract: listed or not.
 -- Assumes nothing.
-use mathlib.Core.Path.{_≡_, refl, ap, sym, _∙_}
-use borrow.Author.Needs.{needs}
+use mathlib.Core.Path.{_≡_, ap, sym, _∙_}
 use mathlib.Core.Bool.{Bool, true, false}
 use Prim.Native.Nat.{ℕ}
 use borrow.Author.Tests.{not-true, not-false}
 use Rattle.model.specs.declared.State.the-variants.{Alive}
 use Rattle.model.specs.Rows.{pick}
-use Rattle.model.specs.IPv4.{ipv4}
+use Rattle.address.specs.Here.{Addr, here}
 use Rattle.model.specs.Node as M
 use Rattle.model.specs.Handler as handler
 use Rattle.node.specs.declared.Node.{Node}
 use Rattle.node.specs.Views.{viewNode, packNode}
-use Rattle.node.specs.Rows.{Ready}
 use Rattle.node.specs.Parts.{ready-is}
 use Rattle.message.proofs.acked.Statement.{statement}
 use Rattle.message.proofs.acked.Tie as tie
 
 -- what is packed where the sender is listed, and where it is not
-by-listing : (n : Node) (a : ℕ) (u : Bool) → M.lists ipv4 a (viewNode n) ≡ u
-    → packNode (pick u (M.change ipv4 a Alive (M.numbered ipv4 a (viewNode n)) (viewNode n)) (viewNode n)) ≡ packNode (handler.acked ipv4 a (viewNode n))
+by-listing : (n : Node) (a : Addr) (u : Bool) → M.lists here a (viewNode n) ≡ u
+    → packNode (pick u (M.change here a Alive (M.numbered here a (viewNode n)) (viewNode n)) (viewNode n)) ≡ packNode (handler.acked here a (viewNode n))
 unfolding handler.acked
-by-listing n a u e = ap (λ (v : Bool). packNode (pick v (M.change ipv4 a Alive (M.numbered ipv4 a (viewNode n)) (viewNode n)) (viewNode n))) (sym e)
+by-listing n a u e = ap (λ (v : Bool). packNode (pick v (M.change here a Alive (M.numbered here a (viewNode n)) (viewNode n)) (viewNode n))) (sym e)
 
-lists-is : (c : tie.After-lists) → c .lists .result ≡ M.lists ipv4 (c .before .before .args .from) (viewNode (c .before .before .args .node))
+lists-is : (c : tie.After-lists) → c .lists .result ≡ M.lists here (c .before .before .args .from) (viewNode (c .before .before .args .node))
 unfolding viewNode
 lists-is c = c .lists .ensures
 
-number-is : (c : tie.After-member-number) → c .member-number .result ≡ M.numbered ipv4 (c .before .before .before .before .args .from) (viewNode (c .before .before .before .before .args .node))
+number-is : (c : tie.After-member-number) → c .member-number .result ≡ M.numbered here (c .before .before .before .before .args .from) (viewNode (c .before .before .before .before .args .node))
 unfolding viewNode
 number-is c = c .member-number .ensures
 
@@ -44,7 +42,7 @@ returns-2 c =
     let s = e .before .before .before in
     let n = s .args .node in
     c .change .ensures
-    ∙ ap (λ (x : ℕ). packNode (M.change ipv4 (s .args .from) Alive x (viewNode n))) (number-is k)
+    ∙ ap (λ (x : ℕ). packNode (M.change here (s .args .from) Alive x (viewNode n))) (number-is k)
     ∙ by-listing n (s .args .from) true (sym (lists-is (e .before)) ∙ not-false _ (e .if1 .left))
 
 pub acked-spec : {M : Type 1} → statement M

@@ -1,6 +1,6 @@
 -- `message::acknowledge` meets its contract: one of two forms.
 -- Assumes nothing.
-use mathlib.Core.Path.{_≡_, ap, sym, _∙_}
+use mathlib.Core.Path.{ap, sym, _∙_}
 use borrow.Author.Needs.{needs}
 use Rattle.message.specs.Answers.{acknowledgedOf}
 use Rattle.message.proofs.acknowledge.Statement.{statement}

@@ -1,6 +1,6 @@
 -- `message::answer` meets its contract: gossip is chosen.
 -- Assumes nothing.
-use mathlib.Core.Path.{_≡_, ap, _∙_}
+use mathlib.Core.Path.{ap, _∙_}
 use borrow.Author.Needs.{needs}
 use Rattle.node.specs.declared.parts.Spread.{Spread}
 use Rattle.message.specs.Answers.{oneLetter}

@@ -1,31 +1,28 @@
 -- `message::dispatch_action` meets its contract: by the kind of the message.
 -- Assumes nothing.
-use mathlib.Core.Path.{_≡_, refl, ap, sym, _∙_}
-use mathlib.Core.Bool.{Bool, true}
-use mathlib.Core.List.{List, map}
+use mathlib.Core.Path.{ap, sym, _∙_}
+use mathlib.Core.Bool.{Bool}
+use mathlib.Core.List.{List}
 use Prim.Native.Nat.{ℕ}
-use lib.ListN.{take}
 use borrow.Author.Needs.{needs}
-use Rattle.model.specs.IPv4.{ipv4}
-use Rattle.model.specs.Bools.{and-split}
-use Rattle.model.specs.Handler as handler
+use Rattle.address.specs.Here.{here}
+use Rattle.laws.specs.Bools.{and-split}
 use Rattle.model.specs.Calls as calls
 use Rattle.types.specs.declared.Gossip.{Gossip}
 use Rattle.types.specs.declared.Action.{Action}
-use Rattle.types.specs.Views.{toGossip, toAction}
+use Rattle.types.specs.Views.{toAction}
 use Rattle.node.specs.declared.Node.{Node}
-use Rattle.node.specs.Views.{viewNode, storedView}
 use Rattle.message.specs.declared.Received.{Received}
-use Rattle.message.specs.Answers.{receivedOf}
+use Rattle.message.specs.Answers.{handledOf}
 use Rattle.message.proofs.dispatch_action.Statement.{statement}
 use Rattle.message.proofs.dispatch_action.Tie as tie
 
 -- the outcome, by the kind of the message
 abbrev by-kind : Node → List Gossip → ℕ → List ℕ → Action → Received
-by-kind n rows given draws x = receivedOf (calls.kept ipv4 (storedView n) draws (handler.handle ipv4 (toAction x) (map toGossip (take given rows)) (viewNode n) draws))
+by-kind n rows given draws x = handledOf n (toAction x) rows given draws
 
 abbrev in-range : Action → Bool
-in-range x = calls.validAction ipv4 (toAction x)
+in-range x = calls.validAction here (toAction x)
 
 handle-ping-requires : tie.Need-handle-ping-requires
 unfolding calls.validAction
@@ -33,7 +30,7 @@ handle-ping-requires c κs =
     let d = c .before in
     let s = d .before .before .before in
     let p = s .pre in
-    (p .0, p .4, p .1, p .2, and-split _ _ (sym (ap in-range (d .action .given .1)) ∙ p .3) .0)
+    (p .0, p .1, and-split _ _ (sym (ap in-range (d .action .given .1)) ∙ p .2) .0)
 
 returns : tie.Need-returns
 returns c =
@@ -60,9 +57,9 @@ dispatch-action-spec =
     (λ c. search needs)
     handle-ping-requires
     (λ c. search needs)
-    (λ c κs. let p = c .before .before .before .before .pre in (p .0, p .4, p .1, p .2))
+    (λ c κs. let p = c .before .before .before .before .pre in (p .0, p .1))
     (λ c. search needs)
-    (λ c κs. let p = c .before .before .before .before .pre in (p .0, p .4, p .1, p .2))
+    (λ c κs. let p = c .before .before .before .before .pre in (p .0, p .1))
     returns
     returns-2
     returns-3)

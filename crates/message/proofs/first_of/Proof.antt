@@ -1,16 +1,14 @@
 -- `message::first_of` meets its contract: after i turns the row holds the first i, and nothing behind them.
 -- Assumes nothing.
-use mathlib.Core.Path.{_≡_, refl, ap, sym, _∙_}
+use mathlib.Core.Path.{_≡_, ap, _∙_}
 use borrow.Author.Needs.{needs}
-use mathlib.Core.List.{List}
-use Prim.Native.Nat.{ℕ, _+_, _-_, _≤_}
+use Prim.Native.Nat.{_-_, _≤_}
 use native.Mathlib.Omega.{arith}
 use native.Mathlib.Numerals.{add-one}
 use lib.ListN.{length, getD, take}
-use lib.Seq.{length-take-le, getD-take, take-take, take-all}
+use lib.Seq.{length-take-le, getD-take, take-all}
 use Rattle.model.specs.Rows.{padTo}
-use Rattle.model.specs.Pad.{pad-step}
-use Rattle.types.specs.declared.Gossip.{Gossip}
+use Rattle.laws.specs.Pad.{pad-step}
 use Rattle.types.specs.Views.{noGossip}
 use Rattle.message.proofs.first_of.Statement.{statement}
 use Rattle.message.proofs.first_of.Tie as tie

@@ -1,6 +1,6 @@
 -- `message::forward_ack` meets its contract: the Ack goes on.
 -- Assumes nothing.
-use mathlib.Core.Path.{_≡_, ap, _∙_}
+use mathlib.Core.Path.{ap, _∙_}
 use borrow.Author.Needs.{needs}
 use Rattle.types.specs.declared.Action.{Action}
 use Rattle.message.specs.Answers.{oneLetter}

@@ -1,19 +1,15 @@
 -- `message::handle_ping` meets its contract: gossip, sender, choose, Ack.
 -- Assumes nothing.
 use mathlib.Core.Path.{_≡_, ap, _∙_}
-use mathlib.Core.List.{map}
-use Prim.Native.Nat.{ℕ}
-use lib.ListN.{take}
 use borrow.Author.Needs.{needs}
-use Rattle.model.specs.IPv4.{ipv4, ipv4-lawful}
+use Rattle.address.specs.Here.{Addr, here, here-lawful}
 use Rattle.model.specs.Answers.{Answer}
-use Rattle.model.specs.After.{After}
+use Rattle.laws.specs.After.{After}
 use Rattle.model.specs.Node as M
 use Rattle.model.specs.Handler as handler
-use Rattle.model.specs.Keeps.{Keeps, gossip-keeps, admit-keeps, more-keeps}
-use Rattle.types.specs.Views.{toGossip}
+use Rattle.laws_rules.specs.Keeps.{Keeps, gossip-keeps, admit-keeps, more-keeps}
 use Rattle.node.specs.Views.{viewNode}
-use Rattle.message.specs.Views.{HeardAs}
+use Rattle.message.specs.Views.{recordsOf, heardOf}
 use Rattle.message.specs.Outcomes.{heard-ready, refused-heard, answered-is}
 use Rattle.types.specs.declared.Action.{Action}
 use Rattle.types.specs.declared.Action.the-variants as action
@@ -21,26 +17,26 @@ use Rattle.message.specs.Answers.{answeredOf}
 use Rattle.message.proofs.handle_ping.Statement.{statement}
 use Rattle.message.proofs.handle_ping.Tie as tie
 
-abbrev whole : tie.Start → Answer (M.Out ℕ)
-whole s = let a = s .args in M.andMore (handler.gossip ipv4 (map toGossip (take (a .given) (a .rows))) (viewNode (a .node)) (a .draws .now)) (handler.admit ipv4 (a .from))
+abbrev whole : tie.Start → Answer (M.Out Addr)
+whole s = let a = s .args in M.andMore (handler.gossip here (recordsOf (a .rows) (a .given)) (viewNode (a .node)) (a .draws .now)) (handler.admit here (a .from))
 
 -- what is heard keeps the node good
-keeps : (s : tie.Start) → After (λ (o : M.Out ℕ). Keeps ipv4 (viewNode (s .args .node)) (o .node)) (whole s)
+keeps : (s : tie.Start) → After (λ (o : M.Out Addr). Keeps here (viewNode (s .args .node)) (o .node)) (whole s)
 keeps s =
     let a = s .args in
-    more-keeps ipv4 ipv4-lawful (handler.admit ipv4 (a .from)) (gossip-keeps ipv4 ipv4-lawful (map toGossip (take (a .given) (a .rows))) (viewNode (a .node)) (a .draws .now) (s .pre .0 .good) (s .pre .3))
-    (λ m rest g. admit-keeps ipv4 ipv4-lawful (a .from) m rest g (s .pre .4))
+    more-keeps here here-lawful (handler.admit here (a .from)) (gossip-keeps here here-lawful (recordsOf (a .rows) (a .given)) (viewNode (a .node)) (a .draws .now) (s .pre .0 .good) (s .pre .1 .valid))
+    (λ m rest g. admit-keeps here here-lawful (a .from) m rest g (s .pre .2))
 
 -- what was heard
-told : (c : tie.After-hear) → HeardAs (c .before .before .args .draws .now) (whole (c .before .before)) (c .hear .result)
-told c = c .hear .ensures
+told : (c : tie.After-handle-gossip) → (let s = c .before .before in c .handle-gossip .result ≡ heardOf (s .args .node) (s .args .draws .now) (whole s))
+told c = c .handle-gossip .ensures
 
 answer-requires : tie.Need-answer-requires
 answer-requires c κs =
     let d = c .before .before .before in
     let h = d .before .before in
     let s = h .before .before in
-    heard-ready (s .args .node) (s .args .draws .now) (whole s) (h .hear .result) (keeps s) (told h) _ (d .drew .given .1)
+    heard-ready (s .args .node) (s .args .draws .now) (whole s) (h .handle-gossip .result) (keeps s) (told h) _ (d .drew .given .1)
 
 returns : tie.Need-returns
 unfolding handler.handle viewNode
@@ -51,11 +47,11 @@ returns c =
     let h = d .before .before in
     let s = h .before .before in
     let a = s .args in
-    let heard = h .hear .result in
+    let heard = h .handle-gossip .result in
     let used = d .drew .given .0 .0 in
     c .answer .ensures
     ∙ ap (λ (x : Action). answeredOf used heard (t .ack-target .result) x) (k .new-ack .ensures)
-    ∙ ap (λ (x : ℕ). answeredOf used heard x (action.Ack (a .node .own) (a .requested-by))) (t .ack-target .ensures)
+    ∙ ap (λ (x : Addr). answeredOf used heard x (action.Ack (a .node .own) (a .requested-by))) (t .ack-target .ensures)
     ∙ answered-is (a .node) (a .draws .now) (whole s) heard used _ _ (keeps s) (told h) (d .drew .given .1)
 
 returns-2 : tie.Need-returns-2
@@ -64,7 +60,7 @@ returns-2 c =
     let d = c .before .before in
     let h = d .before .before in
     let s = h .before .before in
-    c .refused .ensures ∙ refused-heard (s .args .node) (s .args .draws .now) (whole s) (h .hear .result) _ _ (told h) (d .drew2 .given .1)
+    c .refused .ensures ∙ refused-heard (s .args .node) (s .args .draws .now) (whole s) (h .handle-gossip .result) _ _ (told h) (d .drew2 .given .1)
 
 pub handle-ping-spec : {M : Type 1} → statement M
 handle-ping-spec =

@@ -1,19 +1,15 @@
 -- `message::handle_ping_req` meets its contract: gossip, choose, Ping.
 -- Assumes nothing.
-use mathlib.Core.Path.{_≡_, refl, ap, sym, _∙_}
-use mathlib.Core.List.{map}
-use Prim.Native.Nat.{ℕ}
-use lib.ListN.{take}
+use mathlib.Core.Path.{_≡_, refl, ap, _∙_}
 use borrow.Author.Needs.{needs}
-use Rattle.model.specs.IPv4.{ipv4, ipv4-lawful}
+use Rattle.address.specs.Here.{Addr, here, here-lawful}
 use Rattle.model.specs.Answers.{Answer}
-use Rattle.model.specs.After.{After}
+use Rattle.laws.specs.After.{After}
 use Rattle.model.specs.Node as M
 use Rattle.model.specs.Handler as handler
-use Rattle.model.specs.Keeps.{Keeps, gossip-keeps}
-use Rattle.types.specs.Views.{toGossip}
+use Rattle.laws_rules.specs.Keeps.{Keeps, gossip-keeps}
 use Rattle.node.specs.Views.{viewNode}
-use Rattle.message.specs.Views.{HeardAs}
+use Rattle.message.specs.Views.{recordsOf, heardOf}
 use Rattle.message.specs.Outcomes.{heard-ready, refused-heard, answered-is}
 use Rattle.types.specs.declared.Action.{Action}
 use Rattle.message.specs.Answers.{answeredOf}
@@ -21,25 +17,25 @@ use Rattle.message.specs.Hearing.{more-quiet}
 use Rattle.message.proofs.handle_ping_req.Statement.{statement}
 use Rattle.message.proofs.handle_ping_req.Tie as tie
 
-abbrev whole : tie.Start → Answer (M.Out ℕ)
-whole s = let a = s .args in handler.gossip ipv4 (map toGossip (take (a .given) (a .rows))) (viewNode (a .node)) (a .draws .now)
+abbrev whole : tie.Start → Answer (M.Out Addr)
+whole s = let a = s .args in handler.gossip here (recordsOf (a .rows) (a .given)) (viewNode (a .node)) (a .draws .now)
 
 -- what is heard keeps the node good
-keeps : (s : tie.Start) → After (λ (o : M.Out ℕ). Keeps ipv4 (viewNode (s .args .node)) (o .node)) (whole s)
+keeps : (s : tie.Start) → After (λ (o : M.Out Addr). Keeps here (viewNode (s .args .node)) (o .node)) (whole s)
 keeps s =
     let a = s .args in
-    gossip-keeps ipv4 ipv4-lawful (map toGossip (take (a .given) (a .rows))) (viewNode (a .node)) (a .draws .now) (s .pre .0 .good) (s .pre .3)
+    gossip-keeps here here-lawful (recordsOf (a .rows) (a .given)) (viewNode (a .node)) (a .draws .now) (s .pre .0 .good) (s .pre .1 .valid)
 
 -- what was heard
-told : (c : tie.After-hear) → HeardAs (c .before .before .args .draws .now) (whole (c .before .before)) (c .hear .result)
-told c = let s = c .before .before in rw (sym (more-quiet (whole s))) (c .hear .ensures)
+told : (c : tie.After-handle-gossip) → (let s = c .before .before in c .handle-gossip .result ≡ heardOf (s .args .node) (s .args .draws .now) (whole s))
+told c = let s = c .before .before in c .handle-gossip .ensures ∙ ap (heardOf (s .args .node) (s .args .draws .now)) (more-quiet (whole s))
 
 answer-requires : tie.Need-answer-requires
 answer-requires c κs =
     let d = c .before .before in
     let h = d .before .before in
     let s = h .before .before in
-    heard-ready (s .args .node) (s .args .draws .now) (whole s) (h .hear .result) (keeps s) (told h) _ (d .drew .given .1)
+    heard-ready (s .args .node) (s .args .draws .now) (whole s) (h .handle-gossip .result) (keeps s) (told h) _ (d .drew .given .1)
 
 returns : tie.Need-returns
 unfolding handler.handle viewNode
@@ -51,8 +47,8 @@ returns c =
     let a = s .args in
     let used = d .drew .given .0 .0 in
     c .answer .ensures
-    ∙ ap (λ (x : Action). answeredOf used (h .hear .result) (a .suspect) x) (k .new-ping .ensures)
-    ∙ answered-is (a .node) (a .draws .now) (whole s) (h .hear .result) used _ _ (keeps s) (told h) (d .drew .given .1)
+    ∙ ap (λ (x : Action). answeredOf used (h .handle-gossip .result) (a .suspect) x) (k .new-ping .ensures)
+    ∙ answered-is (a .node) (a .draws .now) (whole s) (h .handle-gossip .result) used _ _ (keeps s) (told h) (d .drew .given .1)
 
 returns-2 : tie.Need-returns-2
 unfolding handler.handle viewNode
@@ -60,13 +56,13 @@ returns-2 c =
     let d = c .before .before in
     let h = d .before .before in
     let s = h .before .before in
-    c .refused .ensures ∙ refused-heard (s .args .node) (s .args .draws .now) (whole s) (h .hear .result) _ _ (told h) (d .drew2 .given .1)
+    c .refused .ensures ∙ refused-heard (s .args .node) (s .args .draws .now) (whole s) (h .handle-gossip .result) _ _ (told h) (d .drew2 .given .1)
 
 pub handle-ping-req-spec : {M : Type 1} → statement M
 handle-ping-req-spec =
     tie.close
     (tie.spec
-    (λ c κs. let p = c .before .pre in (p .0, p .1, p .2, p .3, refl))
+    (λ c κs. let p = c .before .pre in (p .0, p .1, refl))
     (λ c. search needs)
     (λ c κs. search needs)
     answer-requires

@@ -1,11 +1,10 @@
 -- `message::one_letter` meets its contract: one letter, and unused places behind it.
 -- Assumes nothing.
-use mathlib.Core.Path.{_≡_, refl, ap, sym, _∙_}
+use mathlib.Core.Path.{ap}
 use borrow.Author.Needs.{needs}
 use lib.ListN.{set, replicate}
 use Rattle.model.specs.declared.Reply.the-variants.{Done}
 use Rattle.node.specs.declared.Letter.{Letter}
-use Rattle.node.specs.declared.Answer.{Answer}
 use Rattle.message.proofs.one_letter.Statement.{statement}
 use Rattle.message.proofs.one_letter.Tie as tie
 

@@ -1,6 +1,6 @@
 -- `message::settle_ack` meets its contract: the sender is Alive.
 -- Assumes nothing.
-use mathlib.Core.Path.{_≡_, ap, _∙_}
+use mathlib.Core.Path.{ap, _∙_}
 use borrow.Author.Needs.{needs}
 use Rattle.model.specs.declared.Reply.the-variants.{Done}
 use Rattle.node.specs.Views.{plainAnswer}

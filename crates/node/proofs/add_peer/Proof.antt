@@ -8,7 +8,7 @@ use native.Mathlib.Omega.{arith}
 use lib.ListN.{length, drop}
 use borrow.Author.Needs.{needs}
 use borrow.Author.Tests.{not-true, not-false}
-use Rattle.model.specs.IPv4.{ipv4}
+use Rattle.address.specs.Here.{Addr, here}
 use Rattle.model.specs.Node as M
 use Rattle.model.specs.Sound.{sound}
 use Rattle.model.specs.declared.Reply.the-variants.{Done}
@@ -23,16 +23,16 @@ use Rattle.node.proofs.add_peer.Statement.{statement}
 use Rattle.node.proofs.add_peer.Tie as tie
 
 -- what has passed where each test was left
-sound-there : (c : tie.Else1) → sound ipv4 (storedView (c .before .before .before .before .args .node)) ≡ true
+sound-there : (c : tie.Else1) → sound here (storedView (c .before .before .before .before .args .node)) ≡ true
 sound-there c = sym (c .before .sound .ensures) ∙ not-false _ (c .if1 .left)
 
-valid-there : (c : tie.Else2) → ipv4 .valid (c .before .before .before .before .before .before .args .a) ≡ true
+valid-there : (c : tie.Else2) → here .valid (c .before .before .before .before .before .before .args .a) ≡ true
 valid-there c = sym (c .before .in-range .ensures) ∙ not-false _ (c .if2 .left)
 
 ready-there : (c : tie.Else1) → Ready (c .before .before .before .before .args .node)
 ready-there c = sound-ready (c .before .before .before .before .args .node) (c .before .before .has-rows .ensures) (sound-there c)
 
-lists-there : (c : tie.Else3) → M.lists ipv4 (c .before .before .before .before .before .before .before .before .before .args .a) (viewNode (c .before .before .before .before .before .before .before .before .before .args .node)) ≡ false
+lists-there : (c : tie.Else3) → M.lists here (c .before .before .before .before .before .before .before .before .before .args .a) (viewNode (c .before .before .before .before .before .before .before .before .before .args .node)) ≡ false
 unfolding viewNode
 lists-there c = sym (c .before .lists .ensures) ∙ c .if3 .left
 
@@ -62,9 +62,9 @@ returns-3 c =
     c .plain .ensures ∙ add-already (a .node) (a .a) (a .number) (a .draws .now) (sound-there e) (valid-there f) (sym (t .before .lists .ensures) ∙ t .if3 .taken)
 
 -- all draws are there yet
-added : (n : Node) (a number : ℕ) (draws : List ℕ) (k : Kept) → k ≡ addedOf (n .members) a number draws 0 → k ≡ keptAs (n .members) (length draws) (list.add (ipv4 .same) a number (viewNode n .members) draws)
+added : (n : Node) (a : Addr) (number : ℕ) (draws : List ℕ) (k : Kept) → k ≡ addedOf (n .members) a number draws 0 → k ≡ keptAs (n .members) (length draws) (list.add (here .same) a number (viewNode n .members) draws)
 unfolding viewNode
-added n a number draws k e = e ∙ ap (λ (m : ℕ). keptAs (n .members) m (list.add (ipv4 .same) a number (viewNode n .members) draws)) (omega arith)
+added n a number draws k e = e ∙ ap (λ (m : ℕ). keptAs (n .members) m (list.add (here .same) a number (viewNode n .members) draws)) (omega arith)
 
 add-member-requires : tie.Need-add-member-requires
 add-member-requires c κs = (ready-there (c .before .before .before .before .before) .members, omega arith)

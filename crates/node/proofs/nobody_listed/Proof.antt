@@ -1,7 +1,6 @@
 -- `node::nobody_listed` meets its contract: each place is unused.
 -- Assumes nothing.
 use mathlib.Core.Path.{_≡_}
-use Prim.Native.Nat.{ℕ}
 use borrow.Author.Needs.{needs}
 use lib.ListN.{replicate}
 use Rattle.member.specs.Views.{packMembers}

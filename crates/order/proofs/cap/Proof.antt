@@ -2,7 +2,7 @@
 -- Assumes nothing.
 use mathlib.Core.Path.{ap, sym, _∙_}
 use native.Mathlib.Omega.{arith}
-use Rattle.model.specs.IPv4.{ipv4}
+use Rattle.address.specs.Here.{here}
 use Rattle.model.specs.Members.{cap}
 use Rattle.order.specs.declared.Exclusion.{Exclusion}
 use Rattle.order.specs.Views.{excluded}
@@ -13,13 +13,13 @@ use Rattle.order.proofs.cap.Tie as tie
 returns : tie.Need-returns
 returns c =
     let a = c .before .before .before .args in
-    let e = ap (λ (x : Exclusion). cap (ipv4 .same) (ipv4 .blank) (ipv4 .blank) (excluded x) (a .wanted) (a .n)) (c .before .enum-told .given .1) in
+    let e = ap (λ (x : Exclusion). cap (here .same) (here .blank) (here .blank) (excluded x) (a .wanted) (a .n)) (c .before .enum-told .given .1) in
     (c .at-most .ensures ∙ sym e, (omega arith, omega arith))
 
 returns-2 : tie.Need-returns-2
 returns-2 c =
     let a = c .before .before .before .args in
-    let e = ap (λ (x : Exclusion). cap (ipv4 .same) (ipv4 .blank) (ipv4 .blank) (excluded x) (a .wanted) (a .n)) (c .before .enum-told2 .given .1) in
+    let e = ap (λ (x : Exclusion). cap (here .same) (here .blank) (here .blank) (excluded x) (a .wanted) (a .n)) (c .before .enum-told2 .given .1) in
     (c .at-most2 .ensures ∙ sym e, (omega arith, omega arith))
 
 pub cap-spec : {M : Type 1} → statement M

@@ -2,8 +2,7 @@
 -- Assumes nothing.
 use mathlib.Core.Path.{_≡_, sym, _∙_}
 use mathlib.Core.Bool.{true, false}
-use Prim.Native.Nat.{ℕ}
-use Rattle.model.specs.IPv4.{ipv4}
+use Rattle.address.specs.Here.{Addr, here}
 use Rattle.model.specs.Members.{passed}
 use Rattle.order.specs.declared.Exclusion.{Exclusion}
 use Rattle.order.specs.declared.Exclusion.the-variants.{Nobody, Peer}
@@ -12,15 +11,15 @@ use borrow.Author.Needs.{needs}
 use Rattle.order.proofs.passed.Statement.{statement}
 use Rattle.order.proofs.passed.Tie as tie
 
-over : (own : ℕ) (e : Exclusion) (x : ℕ) → ipv4 .same own x ≡ true → true ≡ passed (ipv4 .same) (ipv4 .blank) own (excluded e) x
+over : (own : Addr) (e : Exclusion) (x : Addr) → here .same own x ≡ true → true ≡ passed (here .same) (here .blank) own (excluded e) x
 over own Nobody x h = sym h
 over own (Peer e) x h = rw h
 
-nobody : (own : ℕ) (e : Exclusion) (x : ℕ) → e ≡ Nobody → ipv4 .same own x ≡ false → false ≡ passed (ipv4 .same) (ipv4 .blank) own (excluded e) x
+nobody : (own : Addr) (e : Exclusion) (x : Addr) → e ≡ Nobody → here .same own x ≡ false → false ≡ passed (here .same) (here .blank) own (excluded e) x
 nobody own e x p h = rw p (sym h)
 
-peer : (own : ℕ) (e : Exclusion) (y x : ℕ) → e ≡ Peer y → ipv4 .same own x ≡ false
-    → ipv4 .same y x ≡ passed (ipv4 .same) (ipv4 .blank) own (excluded e) x
+peer : (own : Addr) (e : Exclusion) (y x : Addr) → e ≡ Peer y → here .same own x ≡ false
+    → here .same y x ≡ passed (here .same) (here .blank) own (excluded e) x
 peer own e y x p h = rw (p, h)
 
 returns : tie.Need-returns

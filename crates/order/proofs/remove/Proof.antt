@@ -8,20 +8,21 @@ use native.Mathlib.Omega.{arith}
 use native.Mathlib.Numerals.{add-one}
 use lib.ListN.{length, getD, set, take, replicate}
 use lib.Seq.{take-all, getD-take, length-take-le}
+use Rattle.address.specs.Here.{Addr, here}
 use Rattle.model.specs.Rows.{removeAt, padTo}
-use Rattle.model.specs.Pad.{length-removeAt, removeAt-before, removeAt-after, pad-step}
+use Rattle.laws.specs.Pad.{length-removeAt, removeAt-before, removeAt-after, pad-step}
 use borrow.Author.Needs.{needs}
 use Rattle.order.proofs.remove.Statement.{statement}
 use Rattle.order.proofs.remove.Tie as tie
 
 abbrev Inv-loop : tie.InvT-loop
-Inv-loop n place row out₀ i₀ out i = (i + 1 ≤ n) × (out ≡ padTo 64 0 (take i (removeAt (take n row) place)))
+Inv-loop n place row out₀ i₀ out i = (i + 1 ≤ n) × (out ≡ padTo 64 (here .blank) (take i (removeAt (take n row) place)))
 
 abbrev μ-loop : tie.MeasureT-loop
 μ-loop n place row out₀ i₀ out i = n - i
 
 loop-holds : tie.Need-loop-holds Inv-loop μ-loop
-loop-holds c = (omega arith, ap (λ (z : ℕ). replicate 64 z) (c .blank .ensures))
+loop-holds c = (omega arith, ap (λ (z : Addr). replicate 64 z) (c .blank .ensures))
 
 loop-again : tie.Need-loop-again Inv-loop μ-loop
 loop-again c =
@@ -29,18 +30,18 @@ loop-again c =
     let i : ℕ = c .before .before .loop .i in
     let hl : length (a .t1) ≡ 64 = search needs in
     let lt : length (take (a .n) (a .t1)) ≡ a .n = length-take-le (a .n) (a .t1) (omega arith) in
-    let L : List ℕ = removeAt (take (a .n) (a .t1)) (a .place) in
+    let L : List Addr = removeAt (take (a .n) (a .t1)) (a .place) in
     let ll : suc (length L) ≡ a .n = length-removeAt (take (a .n) (a .t1)) (a .place) (omega arith) ∙ lt in
-    let step : (v : ℕ) → getD L i 0 ≡ v → set (c .before .before .loop .out) i v ≡ padTo 64 0 (take (i + 1) L) =
-    λ v g. rw (c .before .before .loop .inv .1, add-one) (pad-step 64 i 0 v L (omega arith) (omega arith) g) in (
+    let step : (v : Addr) → getD L i (here .blank) ≡ v → set (c .before .before .loop .out) i v ≡ padTo 64 (here .blank) (take (i + 1) L) =
+    λ v g. rw (c .before .before .loop .inv .1, add-one) (pad-step 64 i (here .blank) v L (omega arith) (omega arith) g) in (
       omega arith,
       ⊎-elim
-          (λ w. w .1 ∙ step _ (removeAt-before (take (a .n) (a .t1)) (a .place) i 0 (w .0 .taken) ∙ getD-take (a .n) (a .t1) i 0 (omega arith)))
+          (λ w. w .1 ∙ step _ (removeAt-before (take (a .n) (a .t1)) (a .place) i (here .blank) (w .0 .taken) ∙ getD-take (a .n) (a .t1) i (here .blank) (omega arith)))
           (λ w. w .1
           ∙ step _
-          (removeAt-after (take (a .n) (a .t1)) (a .place) i 0 (w .0 .left)
-          ∙ getD-take (a .n) (a .t1) (suc i) 0 (omega arith)
-          ∙ ap (λ (k : ℕ). getD (a .t1) k 0) (sym (add-one i))))
+          (removeAt-after (take (a .n) (a .t1)) (a .place) i (here .blank) (w .0 .left)
+          ∙ getD-take (a .n) (a .t1) (suc i) (here .blank) (omega arith)
+          ∙ ap (λ (k : ℕ). getD (a .t1) k (here .blank)) (sym (add-one i))))
           (c .if1 .came),
     )
 
@@ -50,7 +51,7 @@ returns c =
     let hl : length (a .t1) ≡ 64 = search needs in
     let lt : length (take (a .n) (a .t1)) ≡ a .n = length-take-le (a .n) (a .t1) (omega arith) in
     c .before .loop .inv .1
-    ∙ ap (λ (l : List ℕ). padTo 64 0 l)
+    ∙ ap (λ (l : List Addr). padTo 64 (here .blank) l)
     (take-all (c .before .loop .i) (removeAt (take (a .n) (a .t1)) (a .place))
     (omega (arith, length-removeAt (take (a .n) (a .t1)) (a .place) (omega arith))))
 

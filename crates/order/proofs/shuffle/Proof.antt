@@ -7,6 +7,7 @@ use native.Mathlib.Omega.{arith}
 use native.Mathlib.Nat.{mod-lt}
 use lib.ListN.{length, getD, take, drop, length-set}
 use lib.Seq.{length-take-le}
+use Rattle.address.specs.Here.{Addr, here}
 use Rattle.model.specs.Rows.{swap}
 use Rattle.model.specs.Members.{shuffleFrom, shuffle}
 use Rattle.order.specs.Views.{shuffledAs}
@@ -15,13 +16,13 @@ use borrow.Author.Needs.{needs}
 use Rattle.order.proofs.shuffle.Statement.{statement}
 use Rattle.order.proofs.shuffle.Tie as tie
 
-record Left (row : List ℕ) (n : ℕ) (draws : List ℕ) (from : ℕ) (out : List ℕ) (next i : ℕ) : Type 0 where
+record Left (row : List Addr) (n : ℕ) (draws : List ℕ) (from : ℕ) (out : List Addr) (next i : ℕ) : Type 0 where
   few : i ≤ n
   after : from ≤ next
   within : next ≤ length draws
   long : length out ≡ 64
   rest : drop n out ≡ drop n row
-  same : shuffle 0 (take n row) (drop from draws) ≡ shuffleFrom 0 (i - 1) (take n out) (drop next draws)
+  same : shuffle (here .blank) (take n row) (drop from draws) ≡ shuffleFrom (here .blank) (i - 1) (take n out) (drop next draws)
 
 abbrev Inv-loop : tie.InvT-loop
 Inv-loop row n draws from out₀ next₀ i₀ out next i = Left row n draws from out next i
@@ -39,7 +40,7 @@ loop-holds c =
       within = search needs;
       long = hl;
       rest = refl;
-      same = ap (λ (m : ℕ). shuffleFrom 0 (m - 1) (take (c .args .n) (c .args .row)) (drop (c .args .from) (c .args .draws .now)))
+      same = ap (λ (m : ℕ). shuffleFrom (here .blank) (m - 1) (take (c .args .n) (c .args .row)) (drop (c .args .from) (c .args .draws .now)))
           (length-take-le (c .args .n) (c .args .row) (omega arith));
     }
 
@@ -48,7 +49,7 @@ returns c =
     let a = c .before .before .before .args in
     let l = c .before .before .loop in
     ap (shuffledAs (a .row) (a .n) (length (a .draws .now) - a .from))
-    (sym (shuffle-short 0 (l .i) (take (a .n) (l .out)) (a .draws .now) (l .next) (c .before .loop-test .taken) (c .if1 .taken)) ∙ sym (l .inv .same))
+    (sym (shuffle-short (here .blank) (l .i) (take (a .n) (l .out)) (a .draws .now) (l .next) (c .before .loop-test .taken) (c .if1 .taken)) ∙ sym (l .inv .same))
 
 -- the other place is below i
 below : (c : tie.After-shared-slice-known Inv-loop μ-loop)
@@ -80,12 +81,12 @@ loop-again c =
       after = omega (arith, l .inv .after);
       within = omega arith;
       long = simp length-set (l .inv .long);
-      rest = drop-swap 0 (a .n) (l .out) k j (omega (arith, l .inv .few)) (omega (arith, below c, l .inv .few)) ∙ l .inv .rest;
+      rest = drop-swap (here .blank) (a .n) (l .out) k j (omega (arith, l .inv .few)) (omega (arith, below c, l .inv .few)) ∙ l .inv .rest;
       same =
           l .inv .same
-          ∙ shuffle-turn 0 (l .i) (take (a .n) (l .out)) (a .draws .now) (l .next) (omega arith) (omega arith)
-          ∙ ap (λ (r : List ℕ). shuffleFrom 0 (k - 1) r (drop (l .next + 1) (a .draws .now)))
-          (sym (take-swap 0 (a .n) (l .out) k j (omega (arith, l .inv .few)) (omega (arith, below c, l .inv .few))));
+          ∙ shuffle-turn (here .blank) (l .i) (take (a .n) (l .out)) (a .draws .now) (l .next) (omega arith) (omega arith)
+          ∙ ap (λ (r : List Addr). shuffleFrom (here .blank) (k - 1) r (drop (l .next + 1) (a .draws .now)))
+          (sym (take-swap (here .blank) (a .n) (l .out) k j (omega (arith, l .inv .few)) (omega (arith, below c, l .inv .few))));
     }
 
 returns-2 : tie.Need-returns-2 Inv-loop μ-loop
@@ -94,7 +95,7 @@ returns-2 c =
     let l = c .before .loop in
     shuffled-done (a .row) (l .out) (a .draws .now) (a .n) (a .from) (l .next) (l .inv .rest) (l .inv .after) (l .inv .within)
     ∙ ap (shuffledAs (a .row) (a .n) (length (a .draws .now) - a .from))
-    (sym (shuffle-over 0 (l .i) (take (a .n) (l .out)) (drop (l .next) (a .draws .now)) (c .loop-test .left)) ∙ sym (l .inv .same))
+    (sym (shuffle-over (here .blank) (l .i) (take (a .n) (l .out)) (drop (l .next) (a .draws .now)) (c .loop-test .left)) ∙ sym (l .inv .same))
 
 pub shuffle-spec : {M : Type 1} → statement M
 shuffle-spec =

@@ -1,6 +1,6 @@
 -- `order::without` meets its contract.
 -- Assumes nothing.
-use Rattle.order.specs.declared.Drew.the-variants.{Refused}
+use Rattle.model.specs.declared.Drew.the-variants.{Refused}
 use borrow.Author.Needs.{needs}
 use Rattle.order.proofs.without.Statement.{statement}
 use Rattle.order.proofs.without.Tie as tie

@@ -42,7 +42,7 @@ use denote.Triple.Table.{entered, cited}
 use denote.Triple.Walked.{says, Stays, gave-slice, stay-dropped, walkOf, goes-gave-slice, goes-dropped, Walks, ends-at, walked, walk-meets}
 use denote.Exit.{yes}
 use Rattle.model.specs.Rows.{padTo}
-use Rattle.model.specs.IPv4.{ipv4}
+use Rattle.address.specs.Here.{here}
 use Rattle.model.specs.Calls as calls
 use Rattle.types.specs.declared.Gossip.{Gossip}
 use Rattle.types.specs.declared.Action.{Action}
@@ -245,7 +245,7 @@ module _ {M : Type 1} (𝓤 : URA M) (H : Heap 𝓤) (A : Atoms 𝓤) (W : Given
         owned ! N.the-row (Is N.the-row) (LL.makes N.the-type N′.the-plain 𝓤 H A) nd _ isn $ fjoin ! $ nothing ! $ move ! (2 ∷ 0 ∷ []) $ join ! $ join ! $ frame ! $ done !
 
     abbrev Cored : Received → Type 0
-    Cored d = (d ≡ receivedOf (calls.message ipv4 (storedView nd) (toAction ac) (lentRows rs (length ys)) ds (room gs es))) × (d .written ≤ length gs) × (d .written ≤ 64) × (d .reported ≤ length es) × (d .reported ≤ 65)
+    Cored d = (d ≡ receivedOf (calls.message here (storedView nd) (toAction ac) (lentRows rs (length ys)) ds (room gs es))) × (d .written ≤ length gs) × (d .written ≤ 64) × (d .reported ≤ length es) × (d .reported ≤ 65)
 
     said-core : (d : Received) → ent 𝓤 (ensured 𝓤 H A core.ended (core.clauses 𝓤 H A mem run) (κ₁, tt) args tt d) (fact 𝓤 (Cored d))
     said-core d = exE 𝓤 _ (λ ws. snd∗ 𝓤 (sem 𝓤 H A (lasts core.ended (κ₁, tt) args ws)) (fact 𝓤 (Cored d)))
@@ -253,7 +253,7 @@ module _ {M : Type 1} (𝓤 : URA M) (H : Heap 𝓤) (A : Atoms 𝓤) (W : Given
     -- the array holds all that matters of the lent row
     by-rows : (d : Received) → rs ≡ firstOf ys → Cored d → d ≡ receivedOf (messageOf nd ac ys ds gs es)
     by-rows d er ed =
-        ed .0 ∙ (λ i. receivedOf (calls.message ipv4 (storedView nd) (toAction ac) (lentRows (er i) (length ys)) ds (room gs es)))
+        ed .0 ∙ (λ i. receivedOf (calls.message here (storedView nd) (toAction ac) (lentRows (er i) (length ys)) ds (room gs es)))
         ∙ ap receivedOf (lent-message (storedView nd) (toAction ac) ds (room gs es) ys)
 
   -- what is had at exit: the four tokens, and what says the two rows' last lists

@@ -1,13 +1,13 @@
 -- `timers::all_empty` meets its contract: what is left of the row still decides the answer.
 -- Assumes nothing.
 use mathlib.Core.Path.{_≡_, refl, ap, sym, _∙_}
-use Prim.Native.Nat.{ℕ, _+_, _-_, _≤_}
+use Prim.Native.Nat.{_+_, _-_, _≤_}
 use native.Mathlib.Omega.{arith}
 use lib.ListN.{length, drop}
 use borrow.Author.Needs.{needs}
 use borrow.Author.Tests.{not-true, not-false}
 use Rattle.model.specs.Rows.{every}
-use Rattle.model.specs.Bools.{loop-fails, loop-next, loop-ends}
+use Rattle.laws.specs.Bools.{loop-fails, loop-next, loop-ends}
 use Rattle.timers.specs.Views.{noTimer, isEmptyPlace}
 use Rattle.timers.proofs.all_empty.Statement.{statement}
 use Rattle.timers.proofs.all_empty.Tie as tie

@@ -1,14 +1,14 @@
 -- `timers::all_in_range` meets its contract: what is left of the first n still decides the answer.
 -- Assumes nothing.
 use mathlib.Core.Path.{_≡_, refl, ap, sym, _∙_}
-use Prim.Native.Nat.{ℕ, _+_, _-_, _≤_}
+use Prim.Native.Nat.{_+_, _-_, _≤_}
 use native.Mathlib.Omega.{arith}
 use lib.ListN.{length, getD, take, drop}
 use lib.Seq.{getD-take, length-take-le}
 use borrow.Author.Needs.{needs}
 use borrow.Author.Tests.{not-true, not-false}
 use Rattle.model.specs.Rows.{every}
-use Rattle.model.specs.Bools.{loop-fails, loop-next, loop-ends}
+use Rattle.laws.specs.Bools.{loop-fails, loop-next, loop-ends}
 use Rattle.timers.specs.Views.{noTimer, hasRange}
 use Rattle.timers.proofs.all_in_range.Statement.{statement}
 use Rattle.timers.proofs.all_in_range.Tie as tie

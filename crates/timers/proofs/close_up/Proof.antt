@@ -2,11 +2,11 @@
 -- Assumes nothing.
 use mathlib.Core.Path.{_≡_, ap, _∙_}
 use mathlib.Core.Logic.{⊎-elim}
-use Prim.Native.Nat.{ℕ, _+_, _-_, _≤_}
+use Prim.Native.Nat.{_+_, _-_, _≤_}
 use native.Mathlib.Omega.{arith}
 use lib.ListN.{length, take, replicate}
 use Rattle.model.specs.Rows.{removeAt, padTo}
-use Rattle.model.specs.Closing.{close-before, close-after, close-ends}
+use Rattle.laws.specs.Closing.{close-before, close-after, close-ends}
 use Rattle.timers.specs.declared.Timer.{Timer}
 use Rattle.timers.specs.Views.{noTimer}
 use borrow.Author.Needs.{needs}

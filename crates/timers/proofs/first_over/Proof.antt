@@ -7,7 +7,7 @@ use native.Mathlib.Omega.{arith}
 use lib.ListN.{length, getD, take, drop, length-map, List·getD-map}
 use lib.Seq.{getD-take, length-take-le}
 use borrow.Author.Needs.{needs}
-use Rattle.model.specs.IPv4.{ipv4}
+use Rattle.address.specs.Here.{Addr, here}
 use Rattle.model.specs.Words as W
 use Rattle.model.specs.Detector.{isOver, firstOver}
 use Rattle.timers.specs.declared.Timer.{Timer}
@@ -16,11 +16,11 @@ use Rattle.timers.proofs.Searching.{ahead, ahead-zero, search-found, se
 use Rattle.timers.proofs.first_over.Statement.{statement}
 use Rattle.timers.proofs.first_over.Tie as tie
 
-abbrev listed : ℕ → List Timer → List (W.Timer ℕ)
+abbrev listed : ℕ → List Timer → List (W.Timer Addr)
 listed n entries = map toTimer (take n entries)
 
 abbrev Inv-loop : tie.InvT-loop
-Inv-loop n wait now entries i₀ i = (i ≤ n) × (firstOver ipv4 wait now (listed n entries) ≡ ahead i (firstOver ipv4 wait now (drop i (listed n entries))))
+Inv-loop n wait now entries i₀ i = (i ≤ n) × (firstOver here wait now (listed n entries) ≡ ahead i (firstOver here wait now (drop i (listed n entries))))
 
 abbrev μ-loop : tie.MeasureT-loop
 μ-loop n wait now entries i₀ i = n - i
@@ -42,7 +42,7 @@ returns c =
     let l = c .before .before .before .before .loop in
     let full : length (a .t1) ≡ 16 = search needs in
     sym (ap endingOf (l .inv .1 ∙ search-found (a .wait) (a .now) (toTimer noTimer) (listed (a .n) (a .t1)) (l .i) (omega (arith, long (a .n) (a .t1) full (omega arith)))
-    (ap (λ (t : W.Timer ℕ). isOver (a .wait) (a .now) (t .since)) (at-place (a .n) (a .t1) (l .i) (omega arith)) ∙ sym (c .before .is-over .ensures) ∙ c .if1 .taken)))
+    (ap (λ (t : W.Timer Addr). isOver (a .wait) (a .now) (t .since)) (at-place (a .n) (a .t1) (l .i) (omega arith)) ∙ sym (c .before .is-over .ensures) ∙ c .if1 .taken)))
 
 loop-again : tie.Need-loop-again Inv-loop μ-loop
 loop-again c =
@@ -52,7 +52,7 @@ loop-again c =
     let full : length (a .t1) ≡ 16 = search needs in (
       omega arith,
       l .inv .1 ∙ search-next (a .wait) (a .now) (toTimer noTimer) (listed (a .n) (a .t1)) (l .i) (omega (arith, long (a .n) (a .t1) full (omega arith)))
-          (ap (λ (t : W.Timer ℕ). isOver (a .wait) (a .now) (t .since)) (at-place (a .n) (a .t1) (l .i) (omega arith)) ∙ sym (c .before .is-over .ensures) ∙ c .if1 .left),
+          (ap (λ (t : W.Timer Addr). isOver (a .wait) (a .now) (t .since)) (at-place (a .n) (a .t1) (l .i) (omega arith)) ∙ sym (c .before .is-over .ensures) ∙ c .if1 .left),
     )
 
 returns-2 : tie.Need-returns-2 Inv-loop μ-loop

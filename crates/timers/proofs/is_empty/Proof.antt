@@ -2,8 +2,8 @@
 -- Assumes nothing.
 use mathlib.Core.Path.{_≡_, refl, ap, sym, _∙_}
 use lib.Dec.{eqb}
-use Rattle.model.specs.IPv4.{ipv4}
-use Rattle.model.specs.Bools.{first-of-three, second-of-three, third-of-three}
+use Rattle.address.specs.Here.{here}
+use Rattle.laws.specs.Bools.{first-of-three, second-of-three, third-of-three}
 use borrow.Author.Needs.{needs}
 use borrow.Author.Tests.{not-true, not-false, eq-eqb, ne-eqb}
 use Rattle.timers.proofs.is_empty.Statement.{statement}
@@ -13,16 +13,16 @@ returns : tie.Need-returns
 returns c =
     let b = c .before .before in
     let t = b .before .args .t in
-    first-of-three (ipv4 .same (t .addr) 0) (eqb (t .number) 0) (eqb (t .since) 0)
-    (ap (ipv4 .same (t .addr)) (sym (b .blank .ensures)) ∙ sym (c .before .same .ensures) ∙ not-true _ (c .if1 .taken))
+    first-of-three (here .same (t .addr) (here .blank)) (eqb (t .number) 0) (eqb (t .since) 0)
+    (ap (here .same (t .addr)) (sym (b .blank .ensures)) ∙ sym (c .before .same .ensures) ∙ not-true _ (c .if1 .taken))
 
 returns-2 : tie.Need-returns-2
 returns-2 c =
     let d = c .before .before in
     let b = d .before .before in
     let t = b .before .args .t in
-    second-of-three (ipv4 .same (t .addr) 0) (eqb (t .number) 0) (eqb (t .since) 0)
-    (ap (ipv4 .same (t .addr)) (sym (b .blank .ensures)) ∙ sym (d .before .same .ensures) ∙ not-false _ (d .if1 .left))
+    second-of-three (here .same (t .addr) (here .blank)) (eqb (t .number) 0) (eqb (t .since) 0)
+    (ap (here .same (t .addr)) (sym (b .blank .ensures)) ∙ sym (d .before .same .ensures) ∙ not-false _ (d .if1 .left))
     (ne-eqb (t .number) 0 (c .if2 .taken))
 
 returns-3 : tie.Need-returns-3
@@ -30,8 +30,8 @@ returns-3 c =
     let d = c .before .before .before in
     let b = d .before .before in
     let t = b .before .args .t in
-    third-of-three (ipv4 .same (t .addr) 0) (eqb (t .number) 0) (eqb (t .since) 0)
-    (ap (ipv4 .same (t .addr)) (sym (b .blank .ensures)) ∙ sym (d .before .same .ensures) ∙ not-false _ (d .if1 .left))
+    third-of-three (here .same (t .addr) (here .blank)) (eqb (t .number) 0) (eqb (t .since) 0)
+    (ap (here .same (t .addr)) (sym (b .blank .ensures)) ∙ sym (d .before .same .ensures) ∙ not-false _ (d .if1 .left))
     (eq-eqb (t .number) 0 (c .before .if2 .left))
 
 pub is-empty-spec : {M : Type 1} → statement M

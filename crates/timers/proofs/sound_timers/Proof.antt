@@ -3,29 +3,28 @@
 use mathlib.Core.Path.{_≡_, refl, ap, sym, _∙_}
 use mathlib.Core.Bool.{Bool, true, false, _&&_}
 use mathlib.Core.List.{List, map}
-use Prim.Native.Nat.{ℕ}
 use lib.Dec.{leb}
 use lib.ListN.{take, drop}
 use borrow.Author.Needs.{needs}
 use borrow.Author.Tests.{not-true, not-false, le-leb, lt-leb}
-use Rattle.model.specs.IPv4.{ipv4}
+use Rattle.address.specs.Here.{Addr, here}
 use Rattle.model.specs.Rows.{every}
 use Rattle.model.specs.Words as W
 use Rattle.model.specs.Sound.{isNoTimer, soundTimers}
-use Rattle.model.specs.Bools.{every-map, take-map, drop-map, first-of-three, second-of-three, third-of-three}
+use Rattle.laws.specs.Bools.{every-map, take-map, drop-map, first-of-three, second-of-three, third-of-three}
 use Rattle.timers.specs.declared.Timers.{Timers}
 use Rattle.timers.specs.Views.{toTimer, rowView, hasRange, isEmptyPlace}
 use Rattle.timers.proofs.sound_timers.Statement.{statement}
 use Rattle.timers.proofs.sound_timers.Tie as tie
 
 -- the model's test, said of the declared row
-clauses : (t : Timers) → (leb (t .len) 16 && every hasRange (take (t .len) (t .entries)) && every isEmptyPlace (drop (t .len) (t .entries))) ≡ soundTimers ipv4 (rowView t)
+clauses : (t : Timers) → (leb (t .len) 16 && every hasRange (take (t .len) (t .entries)) && every isEmptyPlace (drop (t .len) (t .entries))) ≡ soundTimers here (rowView t)
 unfolding soundTimers
 clauses t =
-    let a : every (λ (x : W.Timer ℕ). ipv4 .valid (x .addr)) (take (t .len) (map toTimer (t .entries))) ≡ every hasRange (take (t .len) (t .entries)) =
-    ap (every (λ (x : W.Timer ℕ). ipv4 .valid (x .addr))) (take-map toTimer (t .len) (t .entries)) ∙ every-map (λ (x : W.Timer ℕ). ipv4 .valid (x .addr)) toTimer (take (t .len) (t .entries)) in
-    let b : every (isNoTimer ipv4) (drop (t .len) (map toTimer (t .entries))) ≡ every isEmptyPlace (drop (t .len) (t .entries)) =
-    ap (every (isNoTimer ipv4)) (drop-map toTimer (t .len) (t .entries)) ∙ every-map (isNoTimer ipv4) toTimer (drop (t .len) (t .entries)) in
+    let a : every (λ (x : W.Timer Addr). here .valid (x .addr)) (take (t .len) (map toTimer (t .entries))) ≡ every hasRange (take (t .len) (t .entries)) =
+    ap (every (λ (x : W.Timer Addr). here .valid (x .addr))) (take-map toTimer (t .len) (t .entries)) ∙ every-map (λ (x : W.Timer Addr). here .valid (x .addr)) toTimer (take (t .len) (t .entries)) in
+    let b : every (isNoTimer here) (drop (t .len) (map toTimer (t .entries))) ≡ every isEmptyPlace (drop (t .len) (t .entries)) =
+    ap (every (isNoTimer here)) (drop-map toTimer (t .len) (t .entries)) ∙ every-map (isNoTimer here) toTimer (drop (t .len) (t .entries)) in
     sym (rw (a, b))
 
 returns : tie.Need-returns

@@ -1,9 +1,8 @@
 -- `types::parts_of` meets its contract: each arm of the match is a clause of the rule.
 -- Assumes nothing.
 use mathlib.Core.Path.{sym, _∙_, ap}
-use Prim.Native.Nat.{ℕ}
 use borrow.Author.Needs.{needs}
-use Rattle.model.specs.IPv4.{ipv4}
+use Rattle.address.specs.Here.{Addr, here}
 use Rattle.model.specs.Words.{partsOf}
 use Rattle.types.specs.declared.Event.{Event}
 use Rattle.types.specs.declared.Parts.{Parts}
@@ -12,9 +11,9 @@ use Rattle.types.proofs.parts_of.Statement.{statement}
 use Rattle.types.proofs.parts_of.Tie as tie
 
 abbrev parts : Event → Parts
-parts e = fromParts (partsOf ipv4 (toEvent e))
+parts e = fromParts (partsOf here (toEvent e))
 
-abbrev none : ℕ → Parts
+abbrev none : Addr → Parts
 none blank = record { kind = 0; from = blank; subject = blank; number = 0 }
 
 returns : tie.Need-returns

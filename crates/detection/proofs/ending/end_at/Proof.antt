@@ -6,7 +6,7 @@ use native.Mathlib.Omega.{arith}
 use borrow.Author.Needs.{needs}
 use Rattle.model.specs.declared.Reply.the-variants.{Done}
 use Rattle.node.specs.declared.Node.{Node}
-use Rattle.node.specs.Views.{plainAnswer, withMembers, withHeaps}
+use Rattle.node.specs.Views.{plainAnswer, withMembers, withDisseminator}
 use Rattle.detection.specs.declared.Ended.{Ended}
 use Rattle.detection.proofs.TimerEnds.{left, gone-is, emitted, emitted-is, end-full, end-kept}
 use Rattle.detection.proofs.ending.end_at.Statement.{statement}
@@ -30,7 +30,7 @@ returns-2 c =
     let h = c .before in
     let m = h .before in
     let r = m .before in
-    let o = r .before .before .before in
+    let o = r .before .before in
     let p = o .before in
     let d = p .before .before in
     let w = d .before in
@@ -38,8 +38,8 @@ returns-2 c =
     let s = t .before .before .before .before in
     let e = gone-is (s .args .node) (s .pre .0) (s .args .place) (s .pre .1) (t .end .result) (w .without .result) (t .end .ensures) (w .without .ensures) in
     let f = emitted-is (s .args .node) (s .pre .0) (s .args .place) (s .pre .1) (record { event = d .new-node-deceased .result }) (t .end .result) (w .without .result) (p .push .result) e (p .push .ensures) in
-    let z = h .with-heaps .ensures
-    ∙ ap (λ (x : Node). withHeaps x (s .args .node .alive) (p .push .result .heap)) (m .with-members .ensures ∙ ap (λ (x : Node). withMembers x (w .without .result)) (r .with-timers .ensures)) in (
+    let z = h .with-disseminator .ensures
+    ∙ ap (λ (x : Node). withDisseminator x (p .push .result .disseminator)) (m .with-members .ensures ∙ ap (λ (x : Node). withMembers x (w .without .result)) (r .with-timers .ensures)) in (
       (λ i. record { answer = (c .plain2 .ensures ∙ ap (plainAnswer (Done 0)) z) i; events = record { event = d .new-node-deceased .result } ∷ []; reported = 1 })
           ∙ end-kept (s .args .node) (s .pre .0) (s .args .place) (s .pre .1) (record { event = d .new-node-deceased .result }) (d .new-node-deceased .ensures) (left (s .args .node) (s .pre .0) (s .args .place) (s .pre .1) (t .end .result) (w .without .result)) (emitted (s .args .node) (s .pre .0) (s .args .place) (s .pre .1) (t .end .result) (w .without .result) (p .push .result)) e f (o .if1 .left),
       omega arith,

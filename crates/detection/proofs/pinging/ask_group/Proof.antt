@@ -2,11 +2,10 @@
 -- Assumes nothing.
 use mathlib.Core.Path.{refl, ap, sym, _∙_}
 use mathlib.Core.List.{[], _∷_}
-use Prim.Native.Nat.{ℕ}
 use native.Mathlib.Omega.{arith}
 use lib.ListN.{take}
 use borrow.Author.Needs.{needs}
-use Rattle.model.specs.IPv4.{ipv4}
+use Rattle.address.specs.Here.{Addr, here}
 use Rattle.model.specs.Words as W
 use Rattle.model.specs.Node as M
 use Rattle.model.specs.Detector as D
@@ -22,7 +21,7 @@ returns : tie.Need-returns
 returns c =
     let k = c .before .before .before in
     let a = k .before .args in
-    let e : M.Effect ℕ = D.askEach ipv4 (a .target) (take (a .picks .count) (a .picks .row)) (viewNode (a .node)) [] in (
+    let e : M.Effect Addr = D.askEach here (a .target) (take (a .picks .count) (a .picks .row)) (viewNode (a .node)) [] in (
       c .kept .ensures
           ∙ kept-rows (a .used) (k .ask-each .result .node) (k .ask-each .result .mail) _ (a .suspected ∷ []) 1 (e .node) (e .messages) (toGossip (a .suspected) ∷ []) (D.enters (W.WaitingForPingReqAck (a .target) (a .number)) (a .tick))
           (ap (λ (x : Asked). x .node) (k .ask-each .ensures .0)) (ap (λ (x : Asked). x .mail) (k .ask-each .ensures .0)) refl (λ i. sym (from-to-gossip (a .suspected)) i ∷ []) refl,

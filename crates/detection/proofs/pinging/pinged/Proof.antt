@@ -6,6 +6,7 @@ use Prim.Native.Nat.{ℕ, _+_, _≤_, _<_}
 use native.Mathlib.Omega.{arith}
 use lib.ListN.{length, getD}
 use borrow.Author.Needs.{needs}
+use Rattle.address.specs.Here.{Addr, here}
 use Rattle.model.specs.declared.Reply.the-variants.{Done}
 use Rattle.types.specs.declared.Action.{Action}
 use Rattle.types.specs.declared.Gossip.{Gossip}
@@ -48,7 +49,7 @@ long c = search needs
 wide : (c : tie.Start) → length (c .args .picks .row) ≡ 4
 wide c = search needs
 
-written-there : (m mail : Mail) (target : ℕ) (action : Action) (rows : List Gossip) (count : ℕ) → m ≡ mailOf [] → mail ≡ posted m target action rows count → mail .written ≡ count
+written-there : (m mail : Mail) (target : Addr) (action : Action) (rows : List Gossip) (count : ℕ) → m ≡ mailOf [] → mail ≡ posted m target action rows count → mail .written ≡ count
 unfolding mailOf posted
 written-there m mail target action rows count e f = ap (λ (x : Mail). x .written) f ∙ ap (λ (x : Mail). x .written + count) e ∙ omega arith
 
@@ -66,7 +67,7 @@ returns-2 c =
       c .kept .ensures
           ∙ pinged-one (a .node) (a .picks) (a .rows) (a .count) (a .used) (a .tick) (k .member-number .result) (h .change .result) (p .post .result)
           (omega (arith, e .if1 .left)) (omega (arith, wide s)) (omega (arith, long s, s .pre .2)) (k .member-number .ensures) (h .change .ensures)
-          (p .post .ensures ∙ (λ i. posted (m .none .ensures i) (getD (a .picks .row) 0 0) (g .new-ping .ensures i) (a .rows) (a .count))),
+          (p .post .ensures ∙ (λ i. posted (m .none .ensures i) (getD (a .picks .row) 0 (here .blank)) (g .new-ping .ensures i) (a .rows) (a .count))),
       omega (arith, ap (λ (x : Stepped). x .written) (c .kept .ensures), written-there (m .none .result) (p .post .result) _ _ (a .rows) (a .count) (m .none .ensures) (p .post .ensures), s .pre .2),
       omega (arith, ap (λ (x : Stepped). x .reported) (c .kept .ensures)),
     )

@@ -5,7 +5,7 @@ use Prim.Native.Nat.{_-_}
 use native.Mathlib.Omega.{arith}
 use borrow.Author.Needs.{needs}
 use Rattle.node.specs.declared.Node.{Node}
-use Rattle.node.specs.Views.{withMembers, withHeaps}
+use Rattle.node.specs.Views.{withMembers, withDisseminator}
 use Rattle.detection.specs.declared.Stepped.{Stepped}
 use Rattle.detection.proofs.Requests.{changed-is, emitted, emitted-is, request-full, said-ready, wanted-few, request-refused, request-ready, request-few, request-kept}
 use Rattle.detection.proofs.pinging.send_ping_req.Statement.{statement}
@@ -43,7 +43,7 @@ get-member-list-requires c κs =
 ask-group-requires : tie.Need-ask-group-requires
 ask-group-requires c κs =
     let t = c in
-    let d = t .before .before .before .before .before in
+    let d = t .before .before .before .before in
     let k = d .before .before .before .before in
     let o = k .before .before in
     let p = o .before in
@@ -53,14 +53,14 @@ ask-group-requires c κs =
     let a = s .args in
     let e = changed-is (a .node) (s .pre .0) (a .wait) (a .target) (a .number) (a .tick) (a .draws .now) (s .pre .1) (u .update-member .result) (u .update-member .ensures) in
     let f = emitted-is (a .node) (s .pre .0) (a .wait) (a .target) (a .number) (a .tick) (a .draws .now) (s .pre .1) (record { event = g .new-node-suspected .result }) (u .update-member .result) (p .push .result) e (p .push .ensures) in (
-      request-ready (a .node) (s .pre .0) (a .wait) (a .target) (a .number) (a .tick) (a .draws .now) (s .pre .1) (record { event = g .new-node-suspected .result }) (g .new-node-suspected .ensures) (withMembers (a .node) (u .update-member .result)) (emitted (a .node) (s .pre .0) (a .wait) (a .target) (a .number) (a .tick) (a .draws .now) (s .pre .1) (u .update-member .result) (p .push .result)) e f (o .if1 .left) (k .get-member-list .result) (k .get-member-list .ensures) (d .drew .given .0 .0) (d .drew .given .1) (t .with-heaps .result) (t .with-heaps .ensures ∙ ap (λ (x : Node). withHeaps x (p .push .result .heap) (a .node .deceased)) (t .before .with-members .ensures)),
-      request-few (a .node) (s .pre .0) (a .wait) (a .target) (a .number) (a .tick) (a .draws .now) (s .pre .1) (record { event = g .new-node-suspected .result }) (g .new-node-suspected .ensures) (withMembers (a .node) (u .update-member .result)) (emitted (a .node) (s .pre .0) (a .wait) (a .target) (a .number) (a .tick) (a .draws .now) (s .pre .1) (u .update-member .result) (p .push .result)) e f (o .if1 .left) (k .get-member-list .result) (k .get-member-list .ensures) (d .drew .given .0 .0) (d .drew .given .1) (t .with-heaps .result) (t .with-heaps .ensures ∙ ap (λ (x : Node). withHeaps x (p .push .result .heap) (a .node .deceased)) (t .before .with-members .ensures)),
+      request-ready (a .node) (s .pre .0) (a .wait) (a .target) (a .number) (a .tick) (a .draws .now) (s .pre .1) (record { event = g .new-node-suspected .result }) (g .new-node-suspected .ensures) (withMembers (a .node) (u .update-member .result)) (emitted (a .node) (s .pre .0) (a .wait) (a .target) (a .number) (a .tick) (a .draws .now) (s .pre .1) (u .update-member .result) (p .push .result)) e f (o .if1 .left) (k .get-member-list .result) (k .get-member-list .ensures) (d .drew .given .0 .0) (d .drew .given .1) (t .with-disseminator .result) (t .with-disseminator .ensures ∙ ap (λ (x : Node). withDisseminator x (p .push .result .disseminator)) (t .before .with-members .ensures)),
+      request-few (a .node) (s .pre .0) (a .wait) (a .target) (a .number) (a .tick) (a .draws .now) (s .pre .1) (record { event = g .new-node-suspected .result }) (g .new-node-suspected .ensures) (withMembers (a .node) (u .update-member .result)) (emitted (a .node) (s .pre .0) (a .wait) (a .target) (a .number) (a .tick) (a .draws .now) (s .pre .1) (u .update-member .result) (p .push .result)) e f (o .if1 .left) (k .get-member-list .result) (k .get-member-list .ensures) (d .drew .given .0 .0) (d .drew .given .1) (t .with-disseminator .result) (t .with-disseminator .ensures ∙ ap (λ (x : Node). withDisseminator x (p .push .result .disseminator)) (t .before .with-members .ensures)),
     )
 
 returns-2 : tie.Need-returns-2
 returns-2 c =
     let t = c .before in
-    let d = t .before .before .before .before .before in
+    let d = t .before .before .before .before in
     let k = d .before .before .before .before in
     let o = k .before .before in
     let p = o .before in
@@ -70,7 +70,7 @@ returns-2 c =
     let a = s .args in
     let e = changed-is (a .node) (s .pre .0) (a .wait) (a .target) (a .number) (a .tick) (a .draws .now) (s .pre .1) (u .update-member .result) (u .update-member .ensures) in
     let f = emitted-is (a .node) (s .pre .0) (a .wait) (a .target) (a .number) (a .tick) (a .draws .now) (s .pre .1) (record { event = g .new-node-suspected .result }) (u .update-member .result) (p .push .result) e (p .push .ensures) in (
-      c .ask-group .ensures .0 ∙ request-kept (a .node) (s .pre .0) (a .wait) (a .target) (a .number) (a .tick) (a .draws .now) (s .pre .1) (record { event = g .new-node-suspected .result }) (g .new-node-suspected .ensures) (withMembers (a .node) (u .update-member .result)) (emitted (a .node) (s .pre .0) (a .wait) (a .target) (a .number) (a .tick) (a .draws .now) (s .pre .1) (u .update-member .result) (p .push .result)) e f (o .if1 .left) (k .get-member-list .result) (k .get-member-list .ensures) (d .drew .given .0 .0) (d .drew .given .1) (t .with-heaps .result) (t .with-heaps .ensures ∙ ap (λ (x : Node). withHeaps x (p .push .result .heap) (a .node .deceased)) (t .before .with-members .ensures)),
+      c .ask-group .ensures .0 ∙ request-kept (a .node) (s .pre .0) (a .wait) (a .target) (a .number) (a .tick) (a .draws .now) (s .pre .1) (record { event = g .new-node-suspected .result }) (g .new-node-suspected .ensures) (withMembers (a .node) (u .update-member .result)) (emitted (a .node) (s .pre .0) (a .wait) (a .target) (a .number) (a .tick) (a .draws .now) (s .pre .1) (u .update-member .result) (p .push .result)) e f (o .if1 .left) (k .get-member-list .result) (k .get-member-list .ensures) (d .drew .given .0 .0) (d .drew .given .1) (t .with-disseminator .result) (t .with-disseminator .ensures ∙ ap (λ (x : Node). withDisseminator x (p .push .result .disseminator)) (t .before .with-members .ensures)),
       c .ask-group .ensures .1,
       c .ask-group .ensures .2,
     )

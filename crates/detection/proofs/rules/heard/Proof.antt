@@ -2,11 +2,10 @@
 -- Assumes nothing.
 use mathlib.Core.Path.{_≡_, ap, sym, _∙_}
 use mathlib.Core.Bool.{Bool, true}
-use Prim.Native.Nat.{ℕ}
 use borrow.Author.Needs.{needs}
 use borrow.Author.Tests.{not-true, not-false}
 use Rattle.model.specs.declared.State.{State}
-use Rattle.model.specs.IPv4.{ipv4}
+use Rattle.address.specs.Here.{Addr, here}
 use Rattle.model.specs.Rows.{pick}
 use Rattle.model.specs.Words.{isAlive}
 use Rattle.model.specs.Members as list
@@ -20,12 +19,12 @@ returns : tie.Need-returns
 returns c =
     let l = c .before in
     let a = l .before .args in
-    ap (λ (u : Bool). pick u (isAlive (list.heldState (ipv4 .same) (a .target) (viewMembers (a .members) .table))) true) (sym (sym (l .lists .ensures) ∙ not-true _ (c .if1 .taken)))
+    ap (λ (u : Bool). pick u (isAlive (list.heldState (here .same) (a .target) (viewMembers (a .members) .table))) true) (sym (sym (l .lists .ensures) ∙ not-true _ (c .if1 .taken)))
 
 -- where it is listed, its state decides
-decided : (m : Members) (target : ℕ) (st : State) → list.listed (ipv4 .same) target (viewMembers m .table) ≡ true → st ≡ list.heldState (ipv4 .same) target (viewMembers m .table) → isAlive st ≡ heardIn m target
+decided : (m : Members) (target : Addr) (st : State) → list.listed (here .same) target (viewMembers m .table) ≡ true → st ≡ list.heldState (here .same) target (viewMembers m .table) → isAlive st ≡ heardIn m target
 decided m target st l e =
-    ap isAlive e ∙ ap (λ (u : Bool). pick u (isAlive (list.heldState (ipv4 .same) target (viewMembers m .table))) true) (sym l)
+    ap isAlive e ∙ ap (λ (u : Bool). pick u (isAlive (list.heldState (here .same) target (viewMembers m .table))) true) (sym l)
 
 state-there : (c : tie.After-member-state) → isAlive (c .member-state .result) ≡ heardIn (c .before .before .before .args .members) (c .before .before .before .args .target)
 state-there c =

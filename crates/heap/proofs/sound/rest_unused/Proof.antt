@@ -1,7 +1,7 @@
 -- `heap::sound::rest_unused` meets its contract: what is left of the row gives the same answer.
 -- Assumes nothing.
 use mathlib.Core.Path.{_≡_, refl, sym, _∙_}
-use Prim.Native.Nat.{ℕ, _≤_, _-_}
+use Prim.Native.Nat.{_≤_, _-_}
 use lib.ListN.{length}
 use borrow.Author.Tests.{not-true, not-false}
 use Rattle.heap.proofs.Testing.{behind, behind-fails, behind-on, behind-none}

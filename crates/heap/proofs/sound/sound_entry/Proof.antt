@@ -2,7 +2,6 @@
 -- Assumes nothing.
 use borrow.Author.Tests.{not-true, not-false}
 use Rattle.heap.proofs.Testing.{wrong-kind, wrong-size, too-often, range-decides}
-use Rattle.heap.specs.Kinds.{toKind}
 use borrow.Author.Needs.{needs}
 use Rattle.heap.proofs.sound.sound_entry.Statement.{statement}
 use Rattle.heap.proofs.sound.sound_entry.Tie as tie
@@ -12,7 +11,7 @@ returns c =
     let o = c .before in
     let d = o .before in
     let a = d .before .before .args in
-    wrong-kind (a .e) _ (d .parts-of .ensures) (toKind (a .kind)) _ (o .of-kind .ensures) (not-true _ (c .if1 .taken))
+    wrong-kind (a .e) _ (d .parts-of .ensures) (a .kind) _ (o .of-kind .ensures) (not-true _ (c .if1 .taken))
 
 returns-2 : tie.Need-returns-2
 returns-2 c =
@@ -21,7 +20,7 @@ returns-2 c =
     let o = f .before in
     let d = o .before in
     let a = d .before .before .args in
-    wrong-size (a .e) _ (d .parts-of .ensures) (toKind (a .kind)) _ (o .of-kind .ensures) (not-false _ (f .if1 .left)) _ (z .size-of .ensures .0) (c .if2 .taken)
+    wrong-size (a .e) _ (d .parts-of .ensures) (a .kind) _ (o .of-kind .ensures) (not-false _ (f .if1 .left)) _ (z .size-of .ensures .0) (c .if2 .taken)
 
 returns-3 : tie.Need-returns-3
 returns-3 c =
@@ -31,7 +30,7 @@ returns-3 c =
     let o = f .before in
     let d = o .before in
     let a = d .before .before .args in
-    too-often (a .e) _ (d .parts-of .ensures) (toKind (a .kind)) _ (o .of-kind .ensures) (not-false _ (f .if1 .left)) _ (z .size-of .ensures .0) (g .if2 .left) (c .if3 .taken)
+    too-often (a .e) _ (d .parts-of .ensures) (a .kind) _ (o .of-kind .ensures) (not-false _ (f .if1 .left)) _ (z .size-of .ensures .0) (g .if2 .left) (c .if3 .taken)
 
 returns-4 : tie.Need-returns-4
 returns-4 c =
@@ -42,7 +41,7 @@ returns-4 c =
     let o = f .before in
     let d = o .before in
     let a = d .before .before .args in
-    range-decides (a .e) _ (d .parts-of .ensures) (toKind (a .kind)) _ (o .of-kind .ensures) (not-false _ (f .if1 .left)) _ (z .size-of .ensures .0) (g .if2 .left) _ (c .valid-gossip .ensures) (i .if3 .left)
+    range-decides (a .e) _ (d .parts-of .ensures) (a .kind) _ (o .of-kind .ensures) (not-false _ (f .if1 .left)) _ (z .size-of .ensures .0) (g .if2 .left) _ (c .valid-gossip .ensures) (i .if3 .left)
 
 pub sound-entry-spec : {M : Type 1} → statement M
 sound-entry-spec =

@@ -4,14 +4,13 @@ use mathlib.Core.Path.{_≡_}
 use Prim.Native.Nat.{_≤_, _-_}
 use lib.ListN.{length}
 use borrow.Author.Tests.{not-true, not-false}
-use Rattle.heap.specs.Kinds.{toKind}
 use Rattle.heap.proofs.Testing.{Passed, passed-none, passed-more, passed-all, entry-fails, order-fails}
 use borrow.Author.Needs.{needs}
 use Rattle.heap.proofs.sound.used_sound.Statement.{statement}
 use Rattle.heap.proofs.sound.used_sound.Tie as tie
 
 abbrev Inv-loop : tie.InvT-loop
-Inv-loop len kind es i₀ i = (len ≤ 128) × (len ≤ length es) × Passed (toKind kind) len es i
+Inv-loop len kind es i₀ i = (len ≤ 128) × (len ≤ length es) × Passed kind len es i
 
 abbrev μ-loop : tie.MeasureT-loop
 μ-loop len kind es i₀ i = len - i
@@ -25,7 +24,7 @@ returns : tie.Need-returns Inv-loop μ-loop
 returns c =
     let l = c .before .before .before .before in
     let a = l .before .args in
-    entry-fails (toKind (a .kind)) (a .len) (a .t1) (l .loop .inv .1) (l .loop .i) (search needs) _ (c .before .sound-entry .ensures) (not-true _ (c .if1 .taken))
+    entry-fails (a .kind) (a .len) (a .t1) (l .loop .inv .1) (l .loop .i) (search needs) _ (c .before .sound-entry .ensures) (not-true _ (c .if1 .taken))
 
 returns-2 : tie.Need-returns-2 Inv-loop μ-loop
 returns-2 c =
@@ -33,7 +32,7 @@ returns-2 c =
     let s = o .before .before in
     let l = s .before .before .before in
     let a = l .before .args in
-    order-fails (toKind (a .kind)) (a .len) (a .t1) (l .loop .inv .1) (l .loop .i) (search needs) _ (s .sound-entry .ensures) _ (o .above .ensures .0) (c .if2 .taken)
+    order-fails (a .kind) (a .len) (a .t1) (l .loop .inv .1) (l .loop .i) (search needs) _ (s .sound-entry .ensures) _ (o .above .ensures .0) (c .if2 .taken)
 
 loop-again : tie.Need-loop-again Inv-loop μ-loop
 loop-again c =
@@ -44,14 +43,14 @@ loop-again c =
     let a = l .before .args in (
       l .loop .inv .0,
       l .loop .inv .1,
-      passed-more (toKind (a .kind)) (a .len) (a .t1) (l .loop .inv .1) (l .loop .i) (search needs) _ (s .sound-entry .ensures) _ (o .above .ensures .0) (not-false _ (e .if1 .left)) (c .if2 .left) (l .loop .inv .2),
+      passed-more (a .kind) (a .len) (a .t1) (l .loop .inv .1) (l .loop .i) (search needs) _ (s .sound-entry .ensures) _ (o .above .ensures .0) (not-false _ (e .if1 .left)) (c .if2 .left) (l .loop .inv .2),
     )
 
 returns-3 : tie.Need-returns-3 Inv-loop μ-loop
 returns-3 c =
     let l = c .before in
     let a = l .before .args in
-    passed-all (toKind (a .kind)) (a .len) (a .t1) (l .loop .inv .1) (l .loop .i) (c .loop-test .left) (l .loop .inv .2)
+    passed-all (a .kind) (a .len) (a .t1) (l .loop .inv .1) (l .loop .i) (c .loop-test .left) (l .loop .inv .2)
 
 pub used-sound-spec : {M : Type 1} → statement M
 used-sound-spec =

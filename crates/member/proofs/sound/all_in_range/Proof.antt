@@ -5,21 +5,21 @@ use Prim.Native.Nat.{_-_, _≤_}
 use native.Mathlib.Omega.{arith}
 use lib.ListN.{length, take}
 use lib.Seq.{length-take-le, getD-take}
-use Rattle.model.specs.IPv4.{ipv4}
-use Rattle.model.specs.Checks.{Checked, check-start, check-fails, check-next, check-end}
+use Rattle.address.specs.Here.{here}
+use Rattle.laws_list.specs.Checks.{Checked, check-start, check-fails, check-next, check-end}
 use borrow.Author.Tests.{not-true, not-false}
 use borrow.Author.Needs.{needs}
 use Rattle.member.proofs.sound.all_in_range.Statement.{statement}
 use Rattle.member.proofs.sound.all_in_range.Tie as tie
 
 abbrev Inv-loop : tie.InvT-loop
-Inv-loop n row i₀ i = (i ≤ n) × Checked (ipv4 .valid) (take n row) 0 i
+Inv-loop n row i₀ i = (i ≤ n) × Checked (here .valid) (take n row) 0 i
 
 abbrev μ-loop : tie.MeasureT-loop
 μ-loop n row i₀ i = n - i
 
 loop-holds : tie.Need-loop-holds Inv-loop μ-loop
-loop-holds c = (omega arith, check-start (ipv4 .valid) (take (c .args .n) (c .args .t1)) 0)
+loop-holds c = (omega arith, check-start (here .valid) (take (c .args .n) (c .args .t1)) 0)
 
 returns : tie.Need-returns Inv-loop μ-loop
 returns c =
@@ -27,8 +27,8 @@ returns c =
     let l = c .before .before .before .loop in
     let hl : length (a .t1) ≡ 64 = search needs in
     let n : length (take (a .n) (a .t1)) ≡ a .n = length-take-le (a .n) (a .t1) (omega arith) in
-    check-fails (ipv4 .valid) 0 (take (a .n) (a .t1)) 0 (l .i) (l .inv .1) (omega arith)
-    (ap (ipv4 .valid) (getD-take (a .n) (a .t1) (l .i) 0 (omega arith)) ∙ sym (c .before .in-range .ensures) ∙ not-true _ (c .if1 .taken))
+    check-fails (here .valid) (here .blank) (take (a .n) (a .t1)) 0 (l .i) (l .inv .1) (omega arith)
+    (ap (here .valid) (getD-take (a .n) (a .t1) (l .i) (here .blank) (omega arith)) ∙ sym (c .before .in-range .ensures) ∙ not-true _ (c .if1 .taken))
 
 loop-again : tie.Need-loop-again Inv-loop μ-loop
 loop-again c =
@@ -37,8 +37,8 @@ loop-again c =
     let hl : length (a .t1) ≡ 64 = search needs in
     let n : length (take (a .n) (a .t1)) ≡ a .n = length-take-le (a .n) (a .t1) (omega arith) in (
       omega arith,
-      check-next (ipv4 .valid) 0 (take (a .n) (a .t1)) 0 (l .i) (l .inv .1) (omega arith)
-          (ap (ipv4 .valid) (getD-take (a .n) (a .t1) (l .i) 0 (omega arith)) ∙ sym (c .before .in-range .ensures) ∙ not-false _ (c .if1 .left)),
+      check-next (here .valid) (here .blank) (take (a .n) (a .t1)) 0 (l .i) (l .inv .1) (omega arith)
+          (ap (here .valid) (getD-take (a .n) (a .t1) (l .i) (here .blank) (omega arith)) ∙ sym (c .before .in-range .ensures) ∙ not-false _ (c .if1 .left)),
     )
 
 returns-2 : tie.Need-returns-2 Inv-loop μ-loop
@@ -47,7 +47,7 @@ returns-2 c =
     let l = c .before .loop in
     let hl : length (a .t1) ≡ 64 = search needs in
     let n : length (take (a .n) (a .t1)) ≡ a .n = length-take-le (a .n) (a .t1) (omega arith) in
-    check-end (ipv4 .valid) (take (a .n) (a .t1)) 0 (l .i) (l .inv .1) (omega arith)
+    check-end (here .valid) (take (a .n) (a .t1)) 0 (l .i) (l .inv .1) (omega arith)
 
 pub all-in-range-spec : {M : Type 1} → statement M
 all-in-range-spec =

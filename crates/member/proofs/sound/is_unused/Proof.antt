@@ -4,6 +4,7 @@ use mathlib.Core.Path.{_≡_, ap, sym, _∙_}
 use mathlib.Core.Bool.{Bool, true, false, _&&_}
 use Prim.Native.Nat.{ℕ}
 use lib.Dec.{eqb}
+use Rattle.address.specs.Here.{here}
 use Rattle.model.specs.declared.State.{State}
 use Rattle.model.specs.declared.State.the-variants.{Alive, Pending, Suspected}
 use Rattle.model.specs.Words.{isAlive}
@@ -18,23 +19,23 @@ test u s n = u && isAlive s && eqb n 0
 
 -- the address is the blank one
 module _ (c : tie.Else1) where
-  blank : eqb (c .before .before .before .args .m .addr) 0 ≡ true
-  blank =
+  is-blank : here .same (c .before .before .before .args .m .addr) (here .blank) ≡ true
+  is-blank =
       let m = c .before .before .before .args .m in
-      ap (eqb (m .addr)) (sym (c .before .before .blank .ensures)) ∙ sym (c .before .same .ensures) ∙ not-false _ (c .if1 .left)
+      ap (here .same (m .addr)) (sym (c .before .before .blank .ensures)) ∙ sym (c .before .same .ensures) ∙ not-false _ (c .if1 .left)
 
   -- and the state is known
   known : (s : State) → c .before .before .before .args .m .state ≡ s
       → test true s (c .before .before .before .args .m .number)
-      ≡ test (eqb (c .before .before .before .args .m .addr) 0) (c .before .before .before .args .m .state) (c .before .before .before .args .m .number)
-  known s e = sym (λ i. test (blank i) (e i) (c .before .before .before .args .m .number))
+      ≡ test (here .same (c .before .before .before .args .m .addr) (here .blank)) (c .before .before .before .args .m .state) (c .before .before .before .args .m .number)
+  known s e = sym (λ i. test (is-blank i) (e i) (c .before .before .before .args .m .number))
 
 returns : tie.Need-returns
 unfolding test
 returns c =
     let m = c .before .before .before .args .m in
-    let e : eqb (m .addr) 0 ≡ false =
-    ap (eqb (m .addr)) (sym (c .before .before .blank .ensures)) ∙ sym (c .before .same .ensures) ∙ not-true _ (c .if1 .taken) in
+    let e : here .same (m .addr) (here .blank) ≡ false =
+    ap (here .same (m .addr)) (sym (c .before .before .blank .ensures)) ∙ sym (c .before .same .ensures) ∙ not-true _ (c .if1 .taken) in
     sym (ap (λ (u : Bool). test u (m .state) (m .number)) e)
 
 returns-2 : tie.Need-returns-2

@@ -7,17 +7,17 @@ use Prim.Native.Nat.{ℕ, _+_, _-_, _≤_}
 use native.Mathlib.Omega.{arith}
 use lib.ListN.{length, getD, set, take, length-set, getD-replicate}
 use lib.Seq.{length-take-le, getD-take}
-use Rattle.model.specs.IPv4.{ipv4, ipv4-test}
-use Rattle.model.specs.Places.{placeOf}
-use Rattle.model.specs.Checks.{Marked, mark-start, mark-absent, mark-again, mark-next, mark-end}
+use Rattle.address.specs.Here.{Addr, here, here-lawful}
+use Rattle.laws_list.specs.Places.{placeOf}
+use Rattle.laws_list.specs.Checks.{Marked, mark-start, mark-absent, mark-again, mark-next, mark-end}
 use borrow.Author.Needs.{needs}
 use Rattle.member.proofs.sound.matches.Statement.{statement}
 use Rattle.member.proofs.sound.matches.Tie as tie
 
-record Found (row order : List ℕ) (n : ℕ) (marks : List Bool) (i : ℕ) : Type 0 where
+record Found (row order : List Addr) (n : ℕ) (marks : List Bool) (i : ℕ) : Type 0 where
   few : i ≤ n
   long : length marks ≡ 64
-  marked : Marked (ipv4 .same) ipv4-test (take n order) (take n row) marks i
+  marked : Marked (here .same) (here-lawful .test) (take n order) (take n row) marks i
 
 abbrev Inv-loop : tie.InvT-loop
 Inv-loop n row order marks₀ i₀ marks i = Found row order n marks i
@@ -33,7 +33,7 @@ loop-holds c =
     record {
       few = omega arith;
       long = refl;
-      marked = mark-start (ipv4 .same) ipv4-test (take (a .n) (a .t2)) (take (a .n) (a .t1)) _ (λ p h. getD-replicate 64 p false false (omega (arith, c .pre)));
+      marked = mark-start (here .same) (here-lawful .test) (take (a .n) (a .t2)) (take (a .n) (a .t1)) _ (λ p h. getD-replicate 64 p false false (omega (arith, c .pre)));
     }
 
 -- what is known where a place was sought
@@ -50,18 +50,18 @@ module _ (c : tie.After-find-place Inv-loop μ-loop) where
       let h : length (a .t1) ≡ 64 = search needs in
       length-take-le (a .n) (a .t1) (omega arith)
 
-  sought : placeOf (ipv4 .same) (getD (take (c .before .before .before .before .args .n) (c .before .before .before .before .args .t1)) (c .before .before .before .loop .i) 0)
+  sought : placeOf (here .same) (getD (take (c .before .before .before .before .args .n) (c .before .before .before .before .args .t1)) (c .before .before .before .loop .i) (here .blank))
       (take (c .before .before .before .before .args .n) (c .before .before .before .before .args .t2))
       ≡ c .find-place .result
   sought =
       let a = c .before .before .before .before .args in
-      ap (λ (x : ℕ). placeOf (ipv4 .same) x (take (a .n) (a .t2))) (getD-take (a .n) (a .t1) (c .before .before .before .loop .i) 0 (omega arith)) ∙ sym (c .find-place .ensures .0)
+      ap (λ (x : Addr). placeOf (here .same) x (take (a .n) (a .t2))) (getD-take (a .n) (a .t1) (c .before .before .before .loop .i) (here .blank) (omega arith)) ∙ sym (c .find-place .ensures .0)
 
 returns : tie.Need-returns Inv-loop μ-loop
 returns c =
     let f = c .before in
     let a = f .before .before .before .before .args in
-    mark-absent (ipv4 .same) ipv4-test 0 (take (a .n) (a .t2)) (take (a .n) (a .t1)) (f .before .before .before .loop .i) (omega (arith, long-row f))
+    mark-absent (here .same) (here-lawful .test) (here .blank) (take (a .n) (a .t2)) (take (a .n) (a .t1)) (f .before .before .before .loop .i) (omega (arith, long-row f))
     (sought f ∙ c .if1 .taken ∙ sym (long-order f))
 
 returns-2 : tie.Need-returns-2 Inv-loop μ-loop
@@ -69,7 +69,7 @@ returns-2 c =
     let f = c .before .before in
     let a = f .before .before .before .before .args in
     let l = f .before .before .before .loop in
-    mark-again (ipv4 .same) ipv4-test 0 (take (a .n) (a .t2)) (take (a .n) (a .t1)) (l .marks) (l .i) (l .inv .marked) (omega (arith, long-row f))
+    mark-again (here .same) (here-lawful .test) (here .blank) (take (a .n) (a .t2)) (take (a .n) (a .t1)) (l .marks) (l .i) (l .inv .marked) (omega (arith, long-row f))
     (omega (arith, sought f, long-order f, f .find-place .ensures .1, c .before .if1 .left)) (ap (λ (p : ℕ). getD (l .marks) p false) (sought f) ∙ c .if2 .taken)
 
 loop-again : tie.Need-loop-again Inv-loop μ-loop
@@ -81,9 +81,9 @@ loop-again c =
       few = omega arith;
       long = length-set (l .marks) (f .find-place .result) true ∙ l .inv .long;
       marked = subst
-          (λ (p : ℕ). Marked (ipv4 .same) ipv4-test (take (a .n) (a .t2)) (take (a .n) (a .t1)) (set (l .marks) p true) (l .i + 1))
+          (λ (p : ℕ). Marked (here .same) (here-lawful .test) (take (a .n) (a .t2)) (take (a .n) (a .t1)) (set (l .marks) p true) (l .i + 1))
           (sought f)
-          (mark-next (ipv4 .same) ipv4-test 0 (take (a .n) (a .t2)) (take (a .n) (a .t1)) (l .marks) (l .i) (l .inv .marked) (omega (arith, long-row f))
+          (mark-next (here .same) (here-lawful .test) (here .blank) (take (a .n) (a .t2)) (take (a .n) (a .t1)) (l .marks) (l .i) (l .inv .marked) (omega (arith, long-row f))
           (omega (arith, long-order f, l .inv .long, f .before .before .before .before .pre))
           (omega (arith, sought f, long-order f, f .find-place .ensures .1, c .before .if1 .left)) (ap (λ (p : ℕ). getD (l .marks) p false) (sought f) ∙ c .if2 .left));
     }
@@ -96,7 +96,7 @@ returns-3 c =
     let hr : length (a .t1) ≡ 64 = search needs in
     let lo : length (take (a .n) (a .t2)) ≡ a .n = length-take-le (a .n) (a .t2) (omega arith) in
     let lr : length (take (a .n) (a .t1)) ≡ a .n = length-take-le (a .n) (a .t1) (omega arith) in
-    mark-end (ipv4 .same) ipv4-test (take (a .n) (a .t2)) (take (a .n) (a .t1)) (l .marks) (l .i) (l .inv .marked) (omega arith) (omega arith)
+    mark-end (here .same) (here-lawful .test) (take (a .n) (a .t2)) (take (a .n) (a .t1)) (l .marks) (l .i) (l .inv .marked) (omega arith) (omega arith)
 
 pub matches-spec : {M : Type 1} → statement M
 matches-spec =

@@ -4,8 +4,8 @@ use mathlib.Core.Path.{_≡_, ap, sym, _∙_}
 use Prim.Native.Nat.{_-_, _≤_}
 use native.Mathlib.Omega.{arith}
 use lib.ListN.{length, getD}
-use Rattle.model.specs.IPv4.{ipv4}
-use Rattle.model.specs.Checks.{Checked, check-start, check-fails, check-next, check-end}
+use Rattle.address.specs.Here.{here}
+use Rattle.laws_list.specs.Checks.{Checked, check-start, check-fails, check-next, check-end}
 use Rattle.member.specs.Views.{blankAddress}
 use borrow.Author.Tests.{not-true, not-false}
 use borrow.Author.Needs.{needs}
@@ -13,7 +13,7 @@ use Rattle.member.proofs.sound.order_ends.Statement.{statement}
 use Rattle.member.proofs.sound.order_ends.Tie as tie
 
 abbrev Inv-loop : tie.InvT-loop
-Inv-loop n order blank i₀ i = (i ≤ 64) × (blank ≡ ipv4 .blank) × Checked blankAddress order n i
+Inv-loop n order blank i₀ i = (i ≤ 64) × (blank ≡ here .blank) × Checked blankAddress order n i
 
 abbrev μ-loop : tie.MeasureT-loop
 μ-loop n order blank i₀ i = 64 - i
@@ -26,8 +26,8 @@ returns c =
     let a = c .before .before .before .before .before .args in
     let l = c .before .before .before .loop in
     let hl : length (a .t1) ≡ 64 = search needs in
-    check-fails blankAddress 0 (a .t1) (a .n) (l .i) (l .inv .2) (omega arith)
-    (ap (ipv4 .same (getD (a .t1) (l .i) 0)) (sym (l .inv .1)) ∙ sym (c .before .same .ensures) ∙ not-true _ (c .if1 .taken))
+    check-fails blankAddress (here .blank) (a .t1) (a .n) (l .i) (l .inv .2) (omega arith)
+    (ap (here .same (getD (a .t1) (l .i) (here .blank))) (sym (l .inv .1)) ∙ sym (c .before .same .ensures) ∙ not-true _ (c .if1 .taken))
 
 loop-again : tie.Need-loop-again Inv-loop μ-loop
 loop-again c =
@@ -36,8 +36,8 @@ loop-again c =
     let hl : length (a .t1) ≡ 64 = search needs in (
       omega arith,
       l .inv .1,
-      check-next blankAddress 0 (a .t1) (a .n) (l .i) (l .inv .2) (omega arith)
-          (ap (ipv4 .same (getD (a .t1) (l .i) 0)) (sym (l .inv .1)) ∙ sym (c .before .same .ensures) ∙ not-false _ (c .if1 .left)),
+      check-next blankAddress (here .blank) (a .t1) (a .n) (l .i) (l .inv .2) (omega arith)
+          (ap (here .same (getD (a .t1) (l .i) (here .blank))) (sym (l .inv .1)) ∙ sym (c .before .same .ensures) ∙ not-false _ (c .if1 .left)),
     )
 
 returns-2 : tie.Need-returns-2 Inv-loop μ-loop

@@ -3,11 +3,10 @@
 use mathlib.Core.Path.{_≡_, ap, sym, _∙_}
 use mathlib.Core.Bool.{true, _&&_}
 use mathlib.Core.List.{List, map}
-use Prim.Native.Nat.{ℕ}
 use lib.ListN.{take}
 use lib.Dec.{leb}
 use borrow.Author.Tests.{le-leb, lt-leb, not-true, not-false}
-use Rattle.model.specs.IPv4.{ipv4}
+use Rattle.address.specs.Here.{Addr, here}
 use Rattle.model.specs.Rows.{every}
 use Rattle.model.specs.Sound.{positioned, distinct, permutes}
 use Rattle.member.specs.Views.{addrOf}
@@ -25,11 +24,11 @@ placed c = sym (c .before .well-placed .ensures) ∙ not-false _ (c .if2 .left)
 
 -- the row is that of the addresses
 ranged : (c : tie.After-all-in-range)
-    → every (ipv4 .valid) (take (c .before .before .before .before .before .before .before .args .m .len) (map addrOf (c .before .before .before .before .before .before .before .args .m .table)))
+    → every (here .valid) (take (c .before .before .before .before .before .before .before .args .m .len) (map addrOf (c .before .before .before .before .before .before .before .args .m .table)))
     ≡ c .all-in-range .result
 ranged c =
     let m = c .before .before .before .before .before .before .before .args .m in
-    ap (λ (r : List ℕ). every (ipv4 .valid) (take (m .len) r)) (sym (c .before .addresses .ensures)) ∙ sym (c .all-in-range .ensures)
+    ap (λ (r : List Addr). every (here .valid) (take (m .len) r)) (sym (c .before .addresses .ensures)) ∙ sym (c .all-in-range .ensures)
 
 returns : tie.Need-returns
 returns c =
@@ -81,7 +80,7 @@ returns-6 c =
     sound-last m (c .matches .result) (few (p .before .before)) (placed p) (ranged r ∙ not-false _ (t .before .if3 .left))
     (sym (t .table-ends .ensures) ∙ not-false _ (o .before .if4 .left)) (sym (o .order-ends .ensures) ∙ not-false _ (e .if5 .left))
     (c .matches .ensures
-    ∙ ap (λ (x : List ℕ). distinct (ipv4 .same) (take (m .len) x) && permutes (ipv4 .same) (take (m .len) (m .order)) (take (m .len) x)) (r .before .addresses .ensures))
+    ∙ ap (λ (x : List Addr). distinct (here .same) (take (m .len) x) && permutes (here .same) (take (m .len) (m .order)) (take (m .len) x)) (r .before .addresses .ensures))
 
 pub sound-members-spec : {M : Type 1} → statement M
 sound-members-spec =

@@ -5,10 +5,10 @@ use mathlib.Core.List.{map}
 use Prim.Native.Nat.{_-_, _≤_}
 use native.Mathlib.Omega.{arith}
 use lib.ListN.{length, length-map, List·getD-map}
-use Rattle.model.specs.IPv4.{ipv4}
+use Rattle.address.specs.Here.{here}
 use Rattle.model.specs.Words.{noMember}
 use Rattle.model.specs.Sound.{isNoMember}
-use Rattle.model.specs.Checks.{Checked, check-start, check-fails, check-next, check-end}
+use Rattle.laws_list.specs.Checks.{Checked, check-start, check-fails, check-next, check-end}
 use Rattle.member.specs.Views.{toMember, nobody}
 use borrow.Author.Tests.{not-true, not-false}
 use borrow.Author.Needs.{needs}
@@ -16,13 +16,13 @@ use Rattle.member.proofs.sound.table_ends.Statement.{statement}
 use Rattle.member.proofs.sound.table_ends.Tie as tie
 
 abbrev Inv-loop : tie.InvT-loop
-Inv-loop n table i₀ i = (i ≤ 64) × Checked (isNoMember ipv4) (map toMember table) n i
+Inv-loop n table i₀ i = (i ≤ 64) × Checked (isNoMember here) (map toMember table) n i
 
 abbrev μ-loop : tie.MeasureT-loop
 μ-loop n table i₀ i = 64 - i
 
 loop-holds : tie.Need-loop-holds Inv-loop μ-loop
-loop-holds c = (search needs, check-start (isNoMember ipv4) (map toMember (c .args .t1)) (c .args .n))
+loop-holds c = (search needs, check-start (isNoMember here) (map toMember (c .args .t1)) (c .args .n))
 
 returns : tie.Need-returns Inv-loop μ-loop
 returns c =
@@ -30,8 +30,8 @@ returns c =
     let l = c .before .before .before .before .loop in
     let hl : length (a .t1) ≡ 64 = search needs in
     let n : length (map toMember (a .t1)) ≡ 64 = length-map (a .t1) toMember ∙ hl in
-    check-fails (isNoMember ipv4) (noMember ipv4) (map toMember (a .t1)) (a .n) (l .i) (l .inv .1) (omega arith)
-    (ap (isNoMember ipv4) (List·getD-map toMember (a .t1) (l .i) nobody) ∙ sym (c .before .is-unused .ensures) ∙ not-true _ (c .if1 .taken))
+    check-fails (isNoMember here) (noMember here) (map toMember (a .t1)) (a .n) (l .i) (l .inv .1) (omega arith)
+    (ap (isNoMember here) (List·getD-map toMember (a .t1) (l .i) nobody) ∙ sym (c .before .is-unused .ensures) ∙ not-true _ (c .if1 .taken))
 
 loop-again : tie.Need-loop-again Inv-loop μ-loop
 loop-again c =
@@ -40,8 +40,8 @@ loop-again c =
     let hl : length (a .t1) ≡ 64 = search needs in
     let n : length (map toMember (a .t1)) ≡ 64 = length-map (a .t1) toMember ∙ hl in (
       omega arith,
-      check-next (isNoMember ipv4) (noMember ipv4) (map toMember (a .t1)) (a .n) (l .i) (l .inv .1) (omega arith)
-          (ap (isNoMember ipv4) (List·getD-map toMember (a .t1) (l .i) nobody) ∙ sym (c .before .is-unused .ensures) ∙ not-false _ (c .if1 .left)),
+      check-next (isNoMember here) (noMember here) (map toMember (a .t1)) (a .n) (l .i) (l .inv .1) (omega arith)
+          (ap (isNoMember here) (List·getD-map toMember (a .t1) (l .i) nobody) ∙ sym (c .before .is-unused .ensures) ∙ not-false _ (c .if1 .left)),
     )
 
 returns-2 : tie.Need-returns-2 Inv-loop μ-loop
@@ -50,7 +50,7 @@ returns-2 c =
     let l = c .before .loop in
     let hl : length (a .t1) ≡ 64 = search needs in
     let n : length (map toMember (a .t1)) ≡ 64 = length-map (a .t1) toMember ∙ hl in
-    check-end (isNoMember ipv4) (map toMember (a .t1)) (a .n) (l .i) (l .inv .1) (omega arith)
+    check-end (isNoMember here) (map toMember (a .t1)) (a .n) (l .i) (l .inv .1) (omega arith)
 
 pub table-ends-spec : {M : Type 1} → statement M
 table-ends-spec =

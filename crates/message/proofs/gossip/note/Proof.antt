@@ -1,16 +1,36 @@
--- `message::gossip::note` meets its contract: nothing was told, or one event.
+-- `message::gossip::note` meets its contract: nothing is said, or one event stands behind the others.
 -- Assumes nothing.
-use mathlib.Core.Path.{_≡_}
+use mathlib.Core.Path.{ap, sym, _∙_}
+use Prim.Native.Nat.{_+_}
+use lib.ListN.{set}
 use borrow.Author.Needs.{needs}
-use borrow.Author.Tests.{not-true, not-false}
+use Rattle.types.specs.declared.Gossip.{Gossip}
+use Rattle.types.specs.Views.{from-to-gossip}
+use Rattle.rules.specs.declared.News.{News}
+use Rattle.rules.specs.Views.{toNews}
+use Rattle.message.specs.declared.gossip.Report.{Report}
+use Rattle.message.specs.Views.{noted}
 use Rattle.message.proofs.gossip.note.Statement.{statement}
 use Rattle.message.proofs.gossip.note.Tie as tie
 
-returns : tie.Need-returns
-returns c = rw (not-true (c .before .args .told) (c .if1 .taken))
+-- the report with one gossip more
+abbrev with-one : Report → Gossip → Report
+with-one r g = record { events = set (r .events) (r .count) g; count = r .count + 1 }
 
 returns-2 : tie.Need-returns-2
-returns-2 c = rw (not-false (c .before .before .args .told) (c .before .if1 .left))
+returns-2 c =
+    let n = c .before .before in
+    let r = n .before .before .args .report in
+    ap (with-one r) (sym (from-to-gossip (record { event = n .news .given .0 .1 .0 }))) ∙ sym (ap (λ (w : News). noted r (toNews w)) (n .news .given .1))
 
 pub note-spec : {M : Type 1} → statement M
-note-spec = tie.close (tie.spec returns (λ c. search needs) (λ c. search needs) (λ c. search needs) returns-2)
+note-spec =
+    tie.close
+    (tie.spec
+    (λ c. search needs)
+    (λ c. search needs)
+    (λ c. search needs)
+    (λ c. search needs)
+    (λ c. search needs)
+    (λ c. search needs)
+    returns-2)

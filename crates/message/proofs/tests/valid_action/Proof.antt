@@ -1,12 +1,9 @@
 -- `message::tests::valid_action` meets its contract: a case at a time.
 -- Assumes nothing.
-use mathlib.Core.Path.{_≡_, refl, ap, sym, _∙_}
+use mathlib.Core.Path.{sym, _∙_}
 use borrow.Author.Needs.{needs}
 use borrow.Author.Tests.{not-true, not-false}
-use Rattle.model.specs.IPv4.{ipv4}
 use Rattle.model.specs.Calls.{validAction}
-use Rattle.types.specs.declared.Action.{Action}
-use Rattle.types.specs.Views.{toAction}
 use Rattle.message.proofs.tests.valid_action.Statement.{statement}
 use Rattle.message.proofs.tests.valid_action.Tie as tie
 

@@ -4,22 +4,22 @@ use mathlib.Core.Path.{_≡_, refl, ap, sym, _∙_}
 use borrow.Author.Needs.{needs}
 use mathlib.Core.Bool.{Bool}
 use mathlib.Core.List.{List, map}
-use Prim.Native.Nat.{ℕ, _+_, _-_, _≤_}
+use Prim.Native.Nat.{_-_, _≤_}
 use native.Mathlib.Omega.{arith}
-use lib.ListN.{length, getD, take, drop}
+use lib.ListN.{length, take, drop}
 use borrow.Author.Tests.{not-true, not-false}
 use lib.Seq.{getD-take, length-take-le}
-use Rattle.model.specs.IPv4.{ipv4}
+use Rattle.address.specs.Here.{here}
 use Rattle.model.specs.Rows.{every}
 use Rattle.model.specs.Sound.{validGossip}
-use Rattle.model.specs.Bools.{every-map, loop-fails, loop-next, loop-ends}
+use Rattle.laws.specs.Bools.{every-map, loop-fails, loop-next, loop-ends}
 use Rattle.types.specs.declared.Gossip.{Gossip}
 use Rattle.types.specs.Views.{toGossip, noGossip}
 use Rattle.message.proofs.tests.valid_rows.Statement.{statement}
 use Rattle.message.proofs.tests.valid_rows.Tie as tie
 
 abbrev valid : Gossip → Bool
-valid g = validGossip ipv4 (toGossip g)
+valid g = validGossip here (toGossip g)
 
 abbrev Inv-loop : tie.InvT-loop
 Inv-loop given rows i₀ i = (i ≤ given) × (every valid (drop i (take given rows)) ≡ every valid (take given rows))
@@ -28,8 +28,8 @@ abbrev μ-loop : tie.MeasureT-loop
 μ-loop given rows i₀ i = given - i
 
 -- the records as the rules have them
-as-rules : (l : List Gossip) → every valid l ≡ every (validGossip ipv4) (map toGossip l)
-as-rules l = sym (every-map (validGossip ipv4) toGossip l)
+as-rules : (l : List Gossip) → every valid l ≡ every (validGossip here) (map toGossip l)
+as-rules l = sym (every-map (validGossip here) toGossip l)
 
 returns : tie.Need-returns Inv-loop μ-loop
 returns c =

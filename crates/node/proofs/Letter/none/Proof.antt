@@ -1,15 +1,15 @@
 -- `node::Letter::none` meets its contract: its addresses are what `address::blank` gives.
 -- Assumes nothing.
 use mathlib.Core.Path.{ap}
-use Prim.Native.Nat.{ℕ}
 use borrow.Author.Needs.{needs}
+use Rattle.address.specs.Here.{Addr}
 use Rattle.types.specs.declared.Action.the-variants.{Ping}
 use Rattle.types.specs.declared.Optional.the-variants.{Absent}
 use Rattle.node.specs.declared.Letter.{Letter}
 use Rattle.node.proofs.Letter.none.Statement.{statement}
 use Rattle.node.proofs.Letter.none.Tie as tie
 
-abbrev to : ℕ → Letter
+abbrev to : Addr → Letter
 to a = record { target = a; action = Ping a Absent; count = 0 }
 
 returns : tie.Need-returns

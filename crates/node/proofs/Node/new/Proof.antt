@@ -11,17 +11,15 @@ returns : tie.Need-returns
 unfolding packNode fresh
 returns c =
     let d = c .before in
-    let a = d .before in
-    let m = a .before in
+    let m = d .before in
     let s = m .before .args in
     λ i. record {
       settings = s .settings;
       own = s .own;
       members = m .new .ensures i;
-      alive = a .new2 .ensures i;
-      deceased = d .new3 .ensures i;
-      timers = c .new4 .ensures i;
+      disseminator = d .new2 .ensures i;
+      timers = c .new3 .ensures i;
     }
 
 pub new-spec : {M : Type 1} → statement M
-new-spec = tie.close (tie.spec (λ c κs. search needs) (λ c κs. search needs) (λ c κs. search needs) (λ c κs. search needs) returns)
+new-spec = tie.close (tie.spec (λ c κs. search needs) (λ c κs. search needs) (λ c κs. search needs) returns)

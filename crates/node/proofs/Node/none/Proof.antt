@@ -10,17 +10,15 @@ returns : tie.Need-returns
 unfolding packNode
 returns c =
     let d = c .before in
-    let a = d .before in
-    let m = a .before in
+    let m = d .before in
     let b = m .before in
     λ i. record {
       settings = noSettings;
       own = b .blank .ensures i;
       members = m .nobody-listed .ensures i;
-      alive = a .new .ensures i;
-      deceased = d .new2 .ensures i;
-      timers = c .new3 .ensures i;
+      disseminator = d .new .ensures i;
+      timers = c .new2 .ensures i;
     }
 
 pub none-spec : {M : Type 1} → statement M
-none-spec = tie.close (tie.spec (λ c κs. search needs) (λ c κs. search needs) (λ c κs. search needs) (λ c κs. search needs) (λ c κs. search needs) returns)
+none-spec = tie.close (tie.spec (λ c κs. search needs) (λ c κs. search needs) (λ c κs. search needs) (λ c κs. search needs) returns)

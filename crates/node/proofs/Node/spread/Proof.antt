@@ -5,11 +5,12 @@ use Prim.Native.Nat.{ℕ, _≤_}
 use native.Mathlib.Omega.{arith}
 use lib.ListN.{length}
 use borrow.Author.Needs.{needs}
-use Rattle.model.specs.IPv4.{ipv4}
+use Rattle.model.specs.declared.Kind.the-variants as kind
+use Rattle.address.specs.Here.{here}
 use Rattle.model.specs.Limit.{limitOf}
 use Rattle.model.specs.Choose.{Terms, choose, termsOf}
-use Rattle.model.specs.Chosen.{at-most-58}
-use Rattle.model.specs.Good.{ranges}
+use Rattle.disseminate.specs.Fit.{at-most-58}
+use Rattle.laws.specs.Ranges.{ranges}
 use Rattle.model.specs.Node as M
 use Rattle.member.specs.Packing.{view-many}
 use Rattle.disseminate.specs.declared.Choice.{Choice}
@@ -24,8 +25,8 @@ use Rattle.node.proofs.Node.spread.Tie as tie
 get-gossip-requires : tie.Need-get-gossip-requires
 unfolding viewNode
 get-gossip-requires c κs =
-    let r = c .before .before .before .before .pre in
-    (r .alive, r .deceased, r .good .alive, r .good .deceased, r .good .settings, r .members .packed .few)
+    let r = c .before .before .before .before .before .pre in
+    (r .heaps .alive, r .heaps .deceased, r .good .heaps kind.Alive, r .good .heaps kind.Deceased, r .good .settings, r .members .packed .few)
 
 -- the size of a good node's settings
 size-1400 : (n : Node) → Ready n → n .settings .«max_size» ≤ 1400
@@ -36,16 +37,16 @@ returns : tie.Need-returns
 unfolding M.spread viewNode termsOf
 returns c =
     let g = c .before .before .before .before .before in
-    let s = g .before .before .before .before .before in
+    let s = g .before .before .before .before .before .before in
     let n = s .args .self in
     let r = s .pre in
     let terms : ℕ → Terms = λ k. termsOf (n .settings .«max_selected») (n .settings .«max_size») (limitOf k (n .settings .«send_constant»)) in
     let many : n .members .len ≡ length (viewNode n .members .table) = sym (view-many (n .members) (r .members .packed)) in
-    let e : g .get-gossip .result ≡ packChoice (choose ipv4 (terms (length (viewNode n .members .table))) (viewNode n .alive) (viewNode n .deceased)) =
-    g .get-gossip .ensures ∙ ap (λ (k : ℕ). packChoice (choose ipv4 (terms k) (viewNode n .alive) (viewNode n .deceased))) many in
-    let few : length (choose ipv4 (terms (length (viewNode n .members .table))) (viewNode n .alive) (viewNode n .deceased) .chosen) ≤ 58 =
-    at-most-58 (terms (length (viewNode n .members .table))) (viewNode n .alive) (viewNode n .deceased) (size-1400 n r) (r .good .alive) (r .good .deceased) in (
-      spread-is n r (choose ipv4 (terms (length (viewNode n .members .table))) (viewNode n .alive) (viewNode n .deceased)) (g .get-gossip .result) (c .with-heaps .result) e (c .with-heaps .ensures),
+    let e : g .get-gossip .result ≡ packChoice (choose here (terms (length (viewNode n .members .table))) (viewNode n .disseminator .alive) (viewNode n .disseminator .deceased)) =
+    g .get-gossip .ensures ∙ ap (λ (k : ℕ). packChoice (choose here (terms k) (viewNode n .disseminator .alive) (viewNode n .disseminator .deceased))) many in
+    let few : length (choose here (terms (length (viewNode n .members .table))) (viewNode n .disseminator .alive) (viewNode n .disseminator .deceased) .chosen) ≤ 58 =
+    at-most-58 (terms (length (viewNode n .members .table))) (viewNode n .disseminator .alive) (viewNode n .disseminator .deceased) (size-1400 n r) (r .good .heaps kind.Alive) (r .good .heaps kind.Deceased) in (
+      spread-is n r (choose here (terms (length (viewNode n .members .table))) (viewNode n .disseminator .alive) (viewNode n .disseminator .deceased)) (g .get-gossip .result) (c .with-disseminator .result) e (c .with-disseminator .ensures),
       omega (arith, ap (λ (k : Choice). k .chosen .count) e),
     )
 

@@ -11,7 +11,7 @@ returns c =
     let a = d .before .before in
     let o = a .before .before in
     let t = o .before .before in
-    full-rows (t .before .before .before .before .before .before .args .node) (t .has-table .ensures) (o .has-order .ensures) (a .has-entries .ensures) (d .has-entries2 .ensures) (c .has-timers .ensures)
+    full-rows (t .before .before .before .before .before .before .before .args .node) (t .has-table .ensures) (o .has-order .ensures) (a .has-entries .ensures) (d .has-entries2 .ensures) (c .has-timers .ensures)
 
 pub has-rows-spec : {M : Type 1} → statement M
 has-rows-spec = tie.close (tie.spec (λ c κs. search needs) (λ c κs. search needs) (λ c κs. search needs) (λ c κs. search needs) (λ c κs. search needs) returns)

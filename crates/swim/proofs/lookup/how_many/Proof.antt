@@ -4,7 +4,7 @@ use mathlib.Core.Path.{_≡_, ap, sym, _∙_}
 use mathlib.Core.Bool.{true}
 use borrow.Author.Needs.{needs}
 use borrow.Author.Tests.{not-true, not-false}
-use Rattle.model.specs.IPv4.{ipv4}
+use Rattle.address.specs.Here.{here}
 use Rattle.model.specs.Sound.{sound}
 use Rattle.node.specs.Views.{viewNode, storedView}
 use Rattle.node.specs.Rows.{Ready, sound-ready}
@@ -14,7 +14,7 @@ use Rattle.swim.proofs.lookup.how_many.Statement.{statement}
 use Rattle.swim.proofs.lookup.how_many.Tie as tie
 
 -- what has passed where the test was left
-sound-there : (c : tie.Else1) → sound ipv4 (storedView (c .before .before .before .args .node)) ≡ true
+sound-there : (c : tie.Else1) → sound here (storedView (c .before .before .before .args .node)) ≡ true
 sound-there c = sym (c .before .sound .ensures) ∙ not-false _ (c .if1 .left)
 
 ready-there : (c : tie.Else1) → Ready (c .before .before .before .args .node)

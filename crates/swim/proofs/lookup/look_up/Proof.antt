@@ -4,7 +4,7 @@ use mathlib.Core.Path.{_≡_, sym, _∙_}
 use mathlib.Core.Bool.{true, false}
 use borrow.Author.Needs.{needs}
 use borrow.Author.Tests.{not-true, not-false}
-use Rattle.model.specs.IPv4.{ipv4}
+use Rattle.address.specs.Here.{here}
 use Rattle.model.specs.Sound.{sound}
 use Rattle.node.specs.Views.{viewNode, storedView}
 use Rattle.node.specs.Rows.{Ready, sound-ready}
@@ -14,10 +14,10 @@ use Rattle.swim.proofs.lookup.look_up.Statement.{statement}
 use Rattle.swim.proofs.lookup.look_up.Tie as tie
 
 -- what has passed where each test was left
-sound-there : (c : tie.Else1) → sound ipv4 (storedView (c .before .before .before .args .node)) ≡ true
+sound-there : (c : tie.Else1) → sound here (storedView (c .before .before .before .args .node)) ≡ true
 sound-there c = sym (c .before .sound .ensures) ∙ not-false _ (c .if1 .left)
 
-valid-there : (c : tie.Else2) → ipv4 .valid (c .before .before .before .before .before .args .a) ≡ true
+valid-there : (c : tie.Else2) → here .valid (c .before .before .before .before .before .args .a) ≡ true
 valid-there c = sym (c .before .in-range .ensures) ∙ not-false _ (c .if2 .left)
 
 ready-there : (c : tie.Else1) → Ready (c .before .before .before .args .node)

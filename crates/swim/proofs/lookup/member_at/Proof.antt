@@ -7,7 +7,7 @@ use lib.ListN.{length}
 use native.Mathlib.Omega.{arith}
 use borrow.Author.Needs.{needs}
 use borrow.Author.Tests.{not-true, not-false}
-use Rattle.model.specs.IPv4.{ipv4}
+use Rattle.address.specs.Here.{here}
 use Rattle.model.specs.Sound.{sound}
 use Rattle.member.specs.declared.Member.{Member}
 use Rattle.member.specs.Views.{viewMembers, toMember}
@@ -20,7 +20,7 @@ use Rattle.swim.proofs.lookup.member_at.Statement.{statement}
 use Rattle.swim.proofs.lookup.member_at.Tie as tie
 
 -- what has passed where each test was left
-sound-there : (c : tie.Else1) → sound ipv4 (storedView (c .before .before .before .args .node)) ≡ true
+sound-there : (c : tie.Else1) → sound here (storedView (c .before .before .before .args .node)) ≡ true
 sound-there c = sym (c .before .sound .ensures) ∙ not-false _ (c .if1 .left)
 
 ready-there : (c : tie.Else1) → Ready (c .before .before .before .args .node)

@@ -1,13 +1,13 @@
 -- `timers::Timer::empty` meets its contract: its address is what `address::blank` gives.
 -- Assumes nothing.
 use mathlib.Core.Path.{ap}
-use Prim.Native.Nat.{ℕ}
 use borrow.Author.Needs.{needs}
+use Rattle.address.specs.Here.{Addr}
 use Rattle.timers.specs.declared.Timer.{Timer}
 use Rattle.timers.proofs.Timer.empty.Statement.{statement}
 use Rattle.timers.proofs.Timer.empty.Tie as tie
 
-abbrev at : ℕ → Timer
+abbrev at : Addr → Timer
 at a = record { addr = a; number = 0; since = 0 }
 
 returns : tie.Need-returns

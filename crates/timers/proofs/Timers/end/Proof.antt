@@ -2,13 +2,13 @@
 -- Assumes nothing.
 use mathlib.Core.Path.{_≡_, refl, ap, sym, _∙_}
 use mathlib.Core.List.{List, map}
-use Prim.Native.Nat.{ℕ, _+_, _-_}
+use Prim.Native.Nat.{_+_, _-_}
 use native.Mathlib.Omega.{arith}
 use borrow.Author.Needs.{needs}
 use lib.ListN.{length, take}
 use Rattle.model.specs.Rows.{removeAt, padTo}
-use Rattle.model.specs.Pad.{length-removeAt}
-use Rattle.model.specs.Packing.{view-length, from-to-all, map-removeAt}
+use Rattle.laws.specs.Pad.{length-removeAt}
+use Rattle.laws.specs.Packing.{view-length, from-to-all, map-removeAt}
 use Rattle.timers.specs.declared.Timer.{Timer}
 use Rattle.timers.specs.Views.{toTimer, fromTimer, noTimer, timersView}
 use Rattle.timers.proofs.Timers.end.Statement.{statement}

@@ -2,11 +2,11 @@
 -- Assumes nothing.
 use mathlib.Core.Path.{_≡_, refl, sym, _∙_}
 use mathlib.Core.List.{[], _∷_, _++_}
-use Prim.Native.Nat.{ℕ, _+_}
+use Prim.Native.Nat.{_+_}
 use native.Mathlib.Omega.{arith}
 use borrow.Author.Needs.{needs}
 use lib.ListN.{length, length-append}
-use Rattle.model.specs.Packing.{pack-more, view-length}
+use Rattle.laws.specs.Packing.{pack-more, view-length}
 use Rattle.timers.specs.Views.{toTimer, fromTimer, noTimer, timersView}
 use Rattle.timers.proofs.Timers.start.Statement.{statement}
 use Rattle.timers.proofs.Timers.start.Tie as tie

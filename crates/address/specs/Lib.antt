@@ -1,0 +1,3 @@
+pub mod IPv4
+pub mod TextLaws
+pub mod Here

@@ -1,0 +1,9 @@
+pub mod After
+pub mod Bools
+pub mod Lists
+pub mod Counts
+pub mod Pad
+pub mod Packing
+pub mod Padded
+pub mod Closing
+pub mod Ranges

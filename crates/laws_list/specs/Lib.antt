@@ -1,0 +1,9 @@
+pub mod Whole
+pub mod Held
+pub mod Distinct
+pub mod Places
+pub mod Checks
+pub mod Draws
+pub mod Aside
+pub mod Picking
+pub mod Updates

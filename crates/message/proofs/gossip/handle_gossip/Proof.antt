@@ -1,0 +1,219 @@
+-- `message::gossip::handle_gossip` meets its contract: what is left of the rules gives the answer of the whole.
+-- Assumes nothing.
+use mathlib.Core.Path.{_≡_, refl, ap, sym, _∙_}
+use mathlib.Core.List.{List}
+use Prim.Native.Nat.{ℕ, _+_, _-_, _≤_, _<_}
+use native.Mathlib.Omega.{arith}
+use mir.Val.{Fits}
+use mir.Syntax.{w64}
+use lib.ListN.{length, drop}
+use borrow.Author.Needs.{needs}
+use Rattle.address.specs.Here.{Addr, here}
+use Rattle.model.specs.Answers.{Answer}
+use Rattle.model.specs.Words as W
+use Rattle.model.specs.Node as M
+use Rattle.model.specs.Handler as handler
+use Rattle.types.specs.Views.{toOptional}
+use Rattle.heap.specs.Views.{heapView}
+use Rattle.member.specs.declared.Members.{Members}
+use Rattle.member.specs.Views.{viewMembers}
+use Rattle.disseminate.specs.declared.Disseminator.{Disseminator}
+use Rattle.node.specs.declared.Node.{Node}
+use Rattle.node.specs.Views.{viewNode, withMembers, withDisseminator}
+use Rattle.rules.specs.declared.Verdict.{Verdict}
+use Rattle.rules.specs.Views.{toVerdict, toNews, to-from-verdict, to-from-news, listAfterOf}
+use Rattle.message.specs.declared.gossip.Lent.{Lent}
+use Rattle.message.specs.declared.gossip.Report.{Report}
+use Rattle.message.specs.Views.{recordsOf, senderRule, verdictAt, toldOf, noted, heardOf}
+use Rattle.message.specs.Acting.{act-refused, drawn-within, act-full, act-done}
+use Rattle.message.specs.Hearing.{Sofar, ahead, turn, turn-keeps, records-long, noted-few, sofar-start, sofar-next, sofar-over, sofar-refused, sofar-more, sofar-ends}
+use Rattle.message.proofs.gossip.handle_gossip.Statement.{statement}
+use Rattle.message.proofs.gossip.handle_gossip.Tie as tie
+
+abbrev records : Lent → List (W.Gossip Addr)
+records l = recordsOf (l .rows) (l .given)
+
+abbrev whole : Node → Lent → List ℕ → Answer (M.Out Addr)
+whole n l draws = M.andMore (handler.gossip here (records l) (viewNode n) draws) (senderRule (toOptional (l .sender)))
+
+-- the node with the list and the news so far
+abbrev current : Node → Members → Disseminator → Node
+current n m d = withDisseminator (withMembers n m) d
+
+abbrev Inv-loop : tie.InvT-loop
+Inv-loop node lent draws members₀ disseminator₀ report₀ used₀ i₀ members disseminator report used i =
+    (i ≤ lent .given + 1) × (report .count ≤ i) × Sofar (whole node lent draws) (ahead (toOptional (lent .sender)) (records lent) i) draws used (current node members disseminator) report
+
+abbrev μ-loop : tie.MeasureT-loop
+μ-loop node lent draws members₀ disseminator₀ report₀ used₀ i₀ members disseminator report used i = lent .given + 1 - i
+
+loop-holds : tie.Need-loop-holds Inv-loop μ-loop
+loop-holds c =
+    let s = c .before .before .before .before in
+    let a = s .args in (
+      omega arith,
+      omega arith,
+      rw (c .no-events .ensures) (sofar-start (whole (a .node) (a .lent) (a .draws .now)) (a .draws .now) (a .node) (ahead (toOptional (a .lent .sender)) (records (a .lent)) 0) (s .pre .0) refl),
+    )
+
+many : (s : tie.Start Inv-loop μ-loop) → length (records (s .args .lent)) ≡ s .args .lent .given
+many s = records-long (s .args .lent .rows) (s .args .lent .given) (s .pre .1)
+
+is-due : (c : tie.Then1 Inv-loop μ-loop) → c .before .before .loop .i ≤ c .before .before .before .before .before .before .before .args .lent .given
+is-due c = omega (arith, c .if1 .taken)
+
+verdict-at-requires : tie.Need-verdict-at-requires Inv-loop μ-loop
+verdict-at-requires c κs =
+    let r = c .before .before .loop .inv .2 .ready in
+    (r .members, r .heaps .deceased, c .before .before .before .before .before .before .before .pre .1)
+
+-- where a call starts, and the loop as a verdict is given
+abbrev start : tie.After-verdict-at Inv-loop μ-loop → tie.Start Inv-loop μ-loop
+start v = v .before .before .before .before .before .before .before .before
+
+abbrev all : tie.After-verdict-at Inv-loop μ-loop → Answer (M.Out Addr)
+all v = let a = start v .args in whole (a .node) (a .lent) (a .draws .now)
+
+abbrev reached : tie.After-verdict-at Inv-loop μ-loop → Node
+reached v = let at = v .before .before .before .loop in current (start v .args .node) (at .members) (at .disseminator)
+
+room : (v : tie.After-verdict-at Inv-loop μ-loop) → v .before .before .before .loop .report .count < 65
+room v = omega (arith, is-due (v .before), v .before .before .before .loop .inv .1, start v .pre .1 .few)
+
+-- the verdict, and what is ahead of it
+abbrev verdict : tie.After-verdict-at Inv-loop μ-loop → handler.Verdict Addr
+verdict v =
+    let a = start v .args in
+    let at = v .before .before .before .loop in
+    verdictAt (a .node .own) (viewMembers (at .members) .table) (heapView (at .disseminator .deceased)) (records (a .lent)) (toOptional (a .lent .sender)) (at .i)
+
+abbrev rule : tie.After-verdict-at Inv-loop μ-loop → M.Node Addr → List ℕ → Answer (M.Out Addr)
+rule v = let a = start v .args in turn (toOptional (a .lent .sender)) (records (a .lent)) (v .before .before .before .loop .i)
+
+abbrev after : tie.After-verdict-at Inv-loop μ-loop → M.Node Addr → List ℕ → Answer (M.Out Addr)
+after v = let a = start v .args in ahead (toOptional (a .lent .sender)) (records (a .lent)) (v .before .before .before .loop .i + 1)
+
+due : (v : tie.After-verdict-at Inv-loop μ-loop)
+    → Sofar (all v) (λ m ds. M.andMore (rule v m ds) (after v)) (start v .args .draws .now) (v .before .before .before .loop .used) (reached v) (v .before .before .before .loop .report)
+due v =
+    let a = start v .args in
+    let at = v .before .before .before .loop in
+    sofar-next (toOptional (a .lent .sender)) (records (a .lent)) (all v) (a .draws .now) (at .used) (at .i) (reached v) (at .report) (at .inv .2) (omega (arith, many (start v), is-due (v .before)))
+
+-- it is the rules' own
+is-verdict : (v : tie.After-verdict-at Inv-loop μ-loop) → toVerdict (v .verdict-at .result) ≡ verdict v
+is-verdict v = ap toVerdict (v .verdict-at .ensures) ∙ to-from-verdict (verdict v)
+
+is-list : (l : tie.After-list-after Inv-loop μ-loop) → let v = l .before in let at = v .before .before .before .loop in l .list-after .result ≡ listAfterOf (at .members) (verdict v) (start v .args .draws .now) (at .used)
+is-list l =
+    let v = l .before in
+    let at = v .before .before .before .loop in
+    l .list-after .ensures ∙ ap (λ (x : handler.Verdict Addr). listAfterOf (at .members) x (start v .args .draws .now) (at .used)) (is-verdict v)
+
+is-news : (w : tie.After-news-of Inv-loop μ-loop) → let v = w .before .before .before .before .before in toNews (w .news-of .result) ≡ handler.newsOf here (verdict v) (start v .args .node .own)
+is-news w =
+    let v = w .before .before .before .before .before in
+    let own = start v .args .node .own in
+    ap toNews (w .news-of .ensures) ∙ to-from-news (handler.newsOf here (toVerdict (v .verdict-at .result)) own) ∙ ap (λ (x : handler.Verdict Addr). handler.newsOf here x own) (is-verdict v)
+
+is-told : (t : tie.After-tell Inv-loop μ-loop) → let v = t .before .before .before .before .before .before in t .tell .result ≡ toldOf (v .before .before .before .loop .disseminator) (handler.newsOf here (verdict v) (start v .args .node .own))
+is-told t =
+    let v = t .before .before .before .before .before .before in
+    t .tell .ensures ∙ ap (toldOf (v .before .before .before .loop .disseminator)) (is-news (t .before))
+
+-- a lent row's length is a number of the machine
+fits : (s : tie.Start Inv-loop μ-loop) → Fits w64 (length (s .args .draws .now))
+fits s = search needs
+
+add-used : tie.Need-add-used Inv-loop μ-loop
+add-used c =
+    let d = c .before in
+    let l = d .before .before in
+    let v = l .before in
+    let at = v .before .before .before .loop in
+    omega (
+      arith,
+      fits (start v) .fits,
+      drawn-within (reached v) (at .inv .2 .ready) (verdict v) (start v .args .draws .now) (at .used) (at .inv .2 .within) (l .list-after .result) (is-list l) (d .drew .given .0 .0) (d .drew .given .1),
+    )
+
+returns : tie.Need-returns Inv-loop μ-loop
+unfolding viewNode
+returns c =
+    let d = c .before .before in
+    let l = d .before .before in
+    let v = l .before in
+    let a = start v .args in
+    let at = v .before .before .before .loop in
+    let e = act-refused (reached v) (at .inv .2 .ready) (verdict v) (a .draws .now) (at .used) (at .inv .2 .within) (l .list-after .result) (is-list l) _ (d .drew2 .given .1) in
+    c .refused .ensures ∙ sym (ap (heardOf (a .node) (a .draws .now)) (sofar-refused (all v) (a .draws .now) (reached v) (at .report) (at .used) (rule v) (after v) (due v) _ e))
+
+returns-2 : tie.Need-returns-2 Inv-loop μ-loop
+unfolding viewNode
+returns-2 c =
+    let f = c .before in
+    let t = f .before in
+    let d = t .before .before .before in
+    let l = d .before .before in
+    let v = l .before in
+    let a = start v .args in
+    let at = v .before .before .before .loop in
+    let e = act-full (reached v) (at .inv .2 .ready) (verdict v) (a .draws .now) (at .used) (at .inv .2 .within) (l .list-after .result) (is-list l) (d .drew .given .0 .0) (d .drew .given .1) (t .tell .result) (is-told t) (f .if2 .taken) in
+    c .refused2 .ensures ∙ sym (ap (heardOf (a .node) (a .draws .now)) (sofar-refused (all v) (a .draws .now) (reached v) (at .report) (at .used) (rule v) (after v) (due v) _ e))
+
+loop-again : tie.Need-loop-again Inv-loop μ-loop
+unfolding viewNode
+loop-again c =
+    let f = c .before .before .before in
+    let t = f .before in
+    let d = t .before .before .before in
+    let l = d .before .before in
+    let v = l .before in
+    let s = start v in
+    let a = s .args in
+    let at = v .before .before .before .loop in
+    let w = handler.newsOf here (verdict v) (a .node .own) in
+    let n : c .note .result ≡ noted (at .report) w = c .note .ensures ∙ ap (noted (at .report)) (is-news (t .before)) in
+    let more = d .drew .given .0 .0 in
+    let acted = act-done (reached v) (at .inv .2 .ready) (verdict v) (a .draws .now) (at .used) (at .inv .2 .within) (l .list-after .result) (is-list l) more (d .drew .given .1) (t .tell .result) (is-told t) (f .if2 .left) in
+    let keeps = turn-keeps (toOptional (a .lent .sender)) (records (a .lent)) (at .i) (viewNode (reached v)) (drop (at .used) (a .draws .now)) (at .inv .2 .ready .good) (s .pre .1 .valid) (s .pre .2) in (
+      omega (arith, is-due (v .before)),
+      omega (arith, ap (λ (x : Report). x .count) n, noted-few (at .report) w, at .inv .1),
+      rw n (sofar-more (all v) (a .draws .now) (reached v) (at .report) (at .used) (rule v) (after v) (due v) w (current (a .node) (l .list-after .result .members) (t .tell .result .disseminator)) (at .used + more) keeps (room v) acted),
+    )
+
+returns-3 : tie.Need-returns-3 Inv-loop μ-loop
+returns-3 c =
+    let e = c .before in
+    let at = e .before .before .loop in
+    let s = e .before .before .before .before .before .before .before in
+    let a = s .args in
+    let all = whole (a .node) (a .lent) (a .draws .now) in
+    let n = current (a .node) (at .members) (at .disseminator) in
+    sofar-ends all (a .draws .now) (a .node) n (at .report) (at .used)
+    (sofar-over (toOptional (a .lent .sender)) (records (a .lent)) all (a .draws .now) (at .used) (at .i) n (at .report) (at .inv .2) (omega (arith, many s, e .if1 .left)))
+
+pub handle-gossip-spec : {M : Type 1} → statement M
+handle-gossip-spec =
+    tie.close
+    (tie.spec
+    Inv-loop
+    μ-loop
+    (λ c κs. search needs)
+    loop-holds
+    verdict-at-requires
+    (λ c κs. let at = c .before .before .before .loop in (at .inv .2 .ready .members, at .inv .2 .within))
+    (λ c. search needs)
+    add-used
+    (λ c. search needs)
+    (λ c κs. search needs)
+    returns
+    (λ c κs. search needs)
+    (λ c κs. c .before .before .before .before .before .before .before .before .loop .inv .2 .ready .heaps)
+    (λ c κs. search needs)
+    returns-2
+    (λ c κs. room (c .before .before .before .before .before .before .before .before .before))
+    (λ c. let v = c .before .before .before .before .before .before .before .before .before .before in omega (arith, is-due (v .before), start v .pre .1 .few))
+    (λ c. omega (arith, is-due (c .before .before .before .before .before .before .before .before .before .before .before)))
+    loop-again
+    returns-3)

@@ -1,0 +1,79 @@
+-- `message::gossip::verdict_at` meets its contract: a record, or the sender behind them.
+-- Assumes nothing.
+use mathlib.Core.Path.{_≡_, ap, sym, _∙_}
+use mathlib.Core.List.{[]}
+use mathlib.Core.Option.{Option}
+use Prim.Native.Nat.{ℕ}
+use lib.ListN.{getD}
+use borrow.Author.Needs.{needs}
+use Rattle.address.specs.Here.{here}
+use Rattle.model.specs.Choose.{death}
+use Rattle.model.specs.Handler as handler
+use Rattle.types.specs.declared.Optional.{Optional}
+use Rattle.types.specs.Views.{toEvent, toOptional, noGossip}
+use Rattle.heap.specs.Views.{heapView}
+use Rattle.member.specs.Views.{viewMembers}
+use Rattle.rules.specs.declared.Verdict.{Verdict}
+use Rattle.rules.specs.Views.{toFound, fromVerdict, to-from-found}
+use Rattle.message.specs.Views.{recordsOf, deathFor, verdictAt}
+use Rattle.message.specs.Hearing.{record-judged, sender-judged}
+use Rattle.message.proofs.gossip.verdict_at.Statement.{statement}
+use Rattle.message.proofs.gossip.verdict_at.Tie as tie
+
+returns : tie.Need-returns
+returns c =
+    let d = c .before in
+    let i = d .before .before .before in
+    let s = i .before .before in
+    let a = s .args in
+    let t = viewMembers (a .members) .table in
+    let h = heapView (a .deceased) in
+    let e = toEvent (getD (a .lent .rows) (a .i) noGossip .event) in
+    c .judge .ensures
+    ∙ ap (λ (o : Option ℕ). fromVerdict (handler.judge here (a .own) t o e)) (ap toFound (d .death-of .ensures) ∙ to-from-found (deathFor e h))
+    ∙ ap fromVerdict (record-judged (a .own) t h (a .lent .rows) (a .lent .given) (s .pre .2) (toOptional (a .lent .sender)) (a .i) (i .if1 .taken))
+
+-- the verdict behind the records, by the sender
+abbrev behind : tie.Start → Optional → Verdict
+behind s o = let a = s .args in fromVerdict (verdictAt (a .own) (viewMembers (a .members) .table) (heapView (a .deceased)) [] (toOptional o) 0)
+
+last : (c : tie.Else1) → let s = c .before .before in let a = s .args in
+    behind s (a .lent .sender) ≡ fromVerdict (verdictAt (a .own) (viewMembers (a .members) .table) (heapView (a .deceased)) (recordsOf (a .lent .rows) (a .lent .given)) (toOptional (a .lent .sender)) (a .i))
+last c =
+    let s = c .before .before in
+    let a = s .args in
+    ap fromVerdict (sender-judged (a .own) (viewMembers (a .members) .table) (heapView (a .deceased)) (a .lent .rows) (a .lent .given) (s .pre .2) (toOptional (a .lent .sender)) (a .i) (c .if1 .left))
+
+returns-2 : tie.Need-returns-2
+unfolding verdictAt
+returns-2 c = let e = c .before .before in sym (ap (behind (e .before .before)) (c .enum-told .given .1)) ∙ last e
+
+returns-3 : tie.Need-returns-3
+unfolding verdictAt
+returns-3 c =
+    let d = c .before in
+    let o = d .before .before in
+    let e = o .before .before in
+    let s = e .before .before in
+    let a = s .args in
+    let from = o .sender .given .0 .0 in
+    c .judge-sender .ensures
+    ∙ ap (λ (x : Option ℕ). fromVerdict (handler.judgeSender here (viewMembers (a .members) .table) x from)) (ap toFound (d .is-deceased .ensures) ∙ to-from-found (death here from (heapView (a .deceased))))
+    ∙ sym (ap (behind s) (o .sender .given .1))
+    ∙ last e
+
+pub verdict-at-spec : {M : Type 1} → statement M
+verdict-at-spec =
+    tie.close
+    (tie.spec
+    (λ c. search needs)
+    (λ c. search needs)
+    (λ c κs. search needs)
+    (λ c κs. search needs)
+    returns
+    (λ c. search needs)
+    (λ c. search needs)
+    (λ c κs. search needs)
+    (λ c κs. search needs)
+    returns-2
+    returns-3)
