@@ -23,9 +23,9 @@ use Rattle.node.specs.declared.Node.{Node}
 use Rattle.node.specs.Views.{viewNode, storedView, withTimers}
 use Rattle.node.specs.Rows.{Ready}
 use Rattle.node.specs.Parts.{part-timers}
-use Rattle.detection.specs.declared.Wait.{Wait}
-use Rattle.detection.specs.Views.{toWait, freshWait, steppedOf, plainStep}
-use Rattle.detection.proofs.Plain.{plain-step, kept-step}
+use Rattle.wait.specs.declared.Wait.{Wait}
+use Rattle.wait.specs.Views.{toWait, freshWait, steppedOf, plainStep}
+use Rattle.wait.specs.Ends.{plain-step, kept-step}
 
 module _ (n : Node) (r : Ready n) (w : Wait) (a : Addr) (number tick : ℕ) where
   abbrev started : M.Node Addr
@@ -58,13 +58,4 @@ module _ (n : Node) (r : Ready n) (w : Wait) (a : Addr) (number tick : ℕ) wher
       elim (leb 16 (length (viewNode n .timers))) as (λ u. either [] u ≡ either ds u) [
         | true ↦ refl
         | false ↦ let z : _≡_ {A = ℕ} 0 (length ds - length ds) = omega arith in λ i. record { outcome = record { reply = Done (z i); node = M.stored here started; messages = []; events = [] }; wait = D.enters W.SendingPing tick }
-      ]
-
-  -- nothing is sent, nothing reported
-  pub declare-quiet : (steppedOf (keptStep here (storedView n) (toWait w) [] (D.declare here a number tick (viewNode n) [])) .written ≡ 0) × (steppedOf (keptStep here (storedView n) (toWait w) [] (D.declare here a number tick (viewNode n) [])) .reported ≡ 0)
-  unfolding D.declare when steppedOf
-  declare-quiet =
-      elim (leb 16 (length (viewNode n .timers))) as (λ u. (steppedOf (either [] u) .written ≡ 0) × (steppedOf (either [] u) .reported ≡ 0)) [
-        | true ↦ (refl, refl)
-        | false ↦ (refl, refl)
       ]

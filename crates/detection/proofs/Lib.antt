@@ -1,10 +1,2 @@
-pub mod Plain
-pub mod Emitting
-pub mod TimerEnds
 pub mod Declared
-pub mod Posting
-pub mod Drawing
-pub mod Pings
-pub mod Asking
-pub mod Requests
 pub mod Stepping

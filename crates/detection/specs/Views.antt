@@ -1,187 +1,35 @@
--- How the wait record carries the model's, and how what a step and a timer call give carries the model's outcomes.
+-- What the tests before a step say of it; who has answered.
 -- Assumes nothing.
-use mathlib.Core.Path.{_≡_, refl}
-use mathlib.Core.Bool.{Bool, true, false}
-use mathlib.Core.List.{List, [], _∷_, _++_, map}
-use Prim.Native.Nat.{ℕ, _+_, _≤_}
-use lib.ListN.{length, take, set, replicate}
+use mathlib.Core.Bool.{Bool, true, false, not}
+use Prim.Native.Nat.{ℕ}
 use Rattle.model.specs.declared.Reply.{Reply}
-use Rattle.model.specs.declared.Reply.the-variants.{Done}
-use Rattle.model.specs.Rows.{padTo, pick}
-use Rattle.laws.specs.Packing.{PackedRow}
+use Rattle.model.specs.declared.Reply.the-variants.{Done, NotDue, Refused}
+use Rattle.model.specs.Rows.{pick}
+use Rattle.model.specs.Bounds.{Room}
 use Rattle.address.specs.Here.{Addr, here}
 use Rattle.model.specs.Words as W
 use Rattle.model.specs.Members as list
 use Rattle.model.specs.Node as M
 use Rattle.model.specs.Detector as D
 use Rattle.model.specs.Calls as calls
-use Rattle.types.specs.declared.Gossip.{Gossip}
-use Rattle.types.specs.declared.Action.{Action}
-use Rattle.types.specs.declared.Action.the-variants.{PingReq}
-use Rattle.types.specs.Views.{fromGossip, noGossip}
 use Rattle.member.specs.declared.Members.{Members}
 use Rattle.member.specs.Views.{viewMembers}
-use Rattle.node.specs.declared.Node.{Node}
-use Rattle.node.specs.Views.{noLetter, fromMessage, plainAnswer, answerOf, storedView, viewNode, packNode}
-use Rattle.node.specs.Rows.{Ready}
-use Rattle.detection.specs.declared.WaitState.{WaitState}
-use Rattle.detection.specs.declared.WaitState.the-variants.{SendingPing, WaitingForPingAck, SendingPingReq, WaitingForPingReqAck, Declaring}
-use Rattle.detection.specs.declared.Wait.{Wait}
-use Rattle.detection.specs.declared.Stepped.{Stepped}
 use Rattle.detection.specs.declared.Tested.{Tested}
-use Rattle.detection.specs.declared.Ended.{Ended}
-use Rattle.detection.specs.declared.mail.Mail.{Mail}
-use Rattle.detection.specs.declared.pinging.Asked.{Asked}
-
-abbrev pub toState : WaitState → W.WaitState Addr
-toState SendingPing = W.SendingPing
-toState (WaitingForPingAck a n) = W.WaitingForPingAck a n
-toState (SendingPingReq a n) = W.SendingPingReq a n
-toState (WaitingForPingReqAck a n) = W.WaitingForPingReqAck a n
-toState (Declaring a n) = W.Declaring a n
-
-abbrev pub fromState : W.WaitState Addr → WaitState
-fromState W.SendingPing = SendingPing
-fromState (W.WaitingForPingAck a n) = WaitingForPingAck a n
-fromState (W.SendingPingReq a n) = SendingPingReq a n
-fromState (W.WaitingForPingReqAck a n) = WaitingForPingReqAck a n
-fromState (W.Declaring a n) = Declaring a n
-
-abbrev pub toWait : Wait → W.Wait Addr
-toWait w = record { state = toState (w .state); since = w .since }
-
-abbrev pub fromWait : W.Wait Addr → Wait
-fromWait w = record { state = fromState (w .state); since = w .since }
-
-pub to-from-state : (st : W.WaitState Addr) → toState (fromState st) ≡ st
-to-from-state W.SendingPing = refl
-to-from-state (W.WaitingForPingAck a n) = refl
-to-from-state (W.SendingPingReq a n) = refl
-to-from-state (W.WaitingForPingReqAck a n) = refl
-to-from-state (W.Declaring a n) = refl
-
-pub from-to-state : (st : WaitState) → fromState (toState st) ≡ st
-from-to-state SendingPing = refl
-from-to-state (WaitingForPingAck a n) = refl
-from-to-state (SendingPingReq a n) = refl
-from-to-state (WaitingForPingReqAck a n) = refl
-from-to-state (Declaring a n) = refl
-
-pub to-from-wait : (w : W.Wait Addr) → toWait (fromWait w) ≡ w
-to-from-wait w = λ i. record { state = to-from-state (w .state) i; since = w .since }
-
-pub from-to-wait : (w : Wait) → fromWait (toWait w) ≡ w
-from-to-wait w = λ i. record { state = from-to-state (w .state) i; since = w .since }
-
--- a fresh wait record, "SendingPing at any tick"
-abbrev pub freshWait : ℕ → Wait
-freshWait tick = record { state = SendingPing; since = tick }
 
 -- Alive or absent, as a list says
 abbrev pub heardIn : Members → Addr → Bool
 heardIn m a = pick (list.listed (here .same) a (viewMembers m .table)) (W.isAlive (list.heldState (here .same) a (viewMembers m .table))) true
 
--- what a step gives: its answer, the wait record, the gossip of its messages in sending order, and the event that it reported
-unfoldable pub steppedOf : calls.StepOutcome Addr → Stepped
-steppedOf o =
-    record {
-      answer = answerOf (o .outcome);
-      wait = fromWait (o .wait);
-      gossip = padTo 256 noGossip (map fromGossip (calls.packed (o .outcome .messages)));
-      written = length (calls.packed (o .outcome .messages));
-      events = padTo 1 noGossip (map fromGossip (o .outcome .events));
-      reported = length (o .outcome .events);
-    }
+-- a test that fails stops the step, and says its answer
+abbrev pub stopped : Reply → Tested
+stopped reply = record { due = false; reply = reply }
 
--- what a timer call gives
-unfoldable pub endedOf : calls.Outcome Addr → Ended
-endedOf o =
-    record {
-      answer = answerOf o;
-      events = padTo 1 noGossip (map fromGossip (o .events));
-      reported = length (o .events);
-    }
+unfoldable pub orStop : Bool → Reply → Tested → Tested
+orStop fails reply rest = elim fails [ true ↦ stopped reply | false ↦ rest ]
 
--- nothing sent, nothing reported
-abbrev pub plainStep : Reply → Node → Wait → Stepped
-plainStep reply n w =
-    record { answer = plainAnswer reply n; wait = w; gossip = replicate 256 noGossip; written = 0; events = replicate 1 noGossip; reported = 0 }
-
-abbrev pub plainEnd : Reply → Node → Ended
-plainEnd reply n = record { answer = plainAnswer reply n; events = replicate 1 noGossip; reported = 0 }
-
--- what the tests before a step say of it, whatever is drawn
-pub record Told (n : Node) (w : Wait) (tick gossip-room event-room : ℕ) (t : Tested) : Type 0 where
-  pub stops : t .due ≡ false → (draws : List ℕ) → plainStep (t .reply) n w ≡ steppedOf (calls.detect here (storedView n) (toWait w) tick draws (record { gossip = gossip-room; events = event-room }))
-  pub goes : t .due ≡ true → (draws : List ℕ)
-      → steppedOf (calls.keptStep here (storedView n) (toWait w) draws (D.step here (toState (w .state)) tick (viewNode n) draws))
-      ≡ steppedOf (calls.detect here (storedView n) (toWait w) tick draws (record { gossip = gossip-room; events = event-room }))
-  pub ready : t .due ≡ true → Ready n
-  pub valid : t .due ≡ true → calls.validState here (toState (w .state)) ≡ true
-  pub rooms : t .due ≡ true → (256 ≤ gossip-room) × (1 ≤ event-room)
-
--- a step that is kept, after so many draws
-abbrev pub keptOf : ℕ → D.Stepped Addr → calls.StepOutcome Addr
-keptOf used e =
-    record {
-      outcome = record { reply = Done used; node = M.stored here (e .effect .node); messages = e .effect .messages; events = e .effect .events };
-      wait = e .wait;
-    }
-
--- messages to be sent, and their gossip in one row
-unfoldable pub mailOf : List (W.Message Addr) → Mail
-mailOf ms =
-    record {
-      letters = padTo 4 noLetter (map fromMessage ms);
-      sent = length ms;
-      gossip = padTo 256 noGossip (map fromGossip (calls.packed ms));
-      written = length (calls.packed ms);
-    }
-
--- its rows are whole, and behind the last record there is nothing
-pub record PackedMail (m : Mail) : Type 0 where
-  pub letters : length (m .letters) ≡ 4
-  pub gossip : PackedRow 256 noGossip (m .gossip) (m .written)
-
--- one more message, with the first records of a row
-unfoldable pub posted : Mail → Addr → Action → List Gossip → ℕ → Mail
-posted m target action rows count =
-    record {
-      letters = set (m .letters) (m .sent) (record { target = target; action = action; count = count });
-      sent = m .sent + 1;
-      gossip = padTo 256 noGossip (take (m .written) (m .gossip) ++ take count rows);
-      written = m .written + count;
-    }
-
--- a kept step of rows
-abbrev pub keptRows : ℕ → Node → Mail → Wait → List Gossip → ℕ → Stepped
-keptRows used n m w events reported =
-    record {
-      answer = record { reply = Done used; node = n; letters = m .letters; sent = m .sent };
-      wait = w;
-      gossip = m .gossip;
-      written = m .written;
-      events = events;
-      reported = reported;
-    }
-
--- one peer of the group was asked
-abbrev pub askedOne : Node → Mail → Addr → Addr → Asked
-askedOne n m a suspect =
-    let c = M.spread here (viewNode n) in
-    record {
-      node = packNode (c .node);
-      mail = posted m a (PingReq (n .own) suspect) (padTo 64 noGossip (map fromGossip (c .gossip))) (length (c .gossip));
-    }
-
--- and all of it
-abbrev pub askedOf : M.Effect Addr → Asked
-askedOf e = record { node = packNode (e .node); mail = mailOf (e .messages) }
-
--- a suspicion was reported, and the group asked
-abbrev pub groupAsked : Addr → ℕ → ℕ → W.Gossip Addr → M.Effect Addr → D.Stepped Addr
-groupAsked a n tick g e =
-    record {
-      effect = record { node = e .node; messages = e .messages; events = g ∷ [] };
-      wait = D.enters (W.WaitingForPingReqAck a n) tick;
-    }
+-- what the tests before a step say of it: 2, 3, 5, not due
+unfoldable pub testedOf : M.Stored Addr → W.Wait Addr → ℕ → Room → Tested
+testedOf s w tick lent =
+    calls.firstOf (calls.stepTests here s w lent)
+    (λ r. stopped (Refused r))
+    (orStop (not (D.due (s .settings) w tick)) NotDue (record { due = true; reply = Done 0 }))

@@ -15,28 +15,24 @@ use Rattle.model.specs.Answers.{done, refused, when}
 use Rattle.address.specs.Here.{Addr, here}
 use Rattle.model.specs.Words as W
 use Rattle.model.specs.Heap.{push, sinkTop, removeTop}
-use Rattle.model.specs.Size.{sizeOf}
 use Rattle.model.specs.Choose.{entryOf, takeTop}
 use Rattle.model.specs.Node.{pushed}
 use Rattle.heap.specs.declared.Heap.{Heap}
-use Rattle.heap.specs.Views.{heapView, packHeap, Packed, view-length, pack-view}
+use Rattle.heap.specs.Views.{heapView, Packed, view-length, pack-view}
 use Rattle.disseminate.specs.declared.Grown.{Grown}
 use Rattle.disseminate.specs.declared.Disseminator.{Disseminator}
-use Rattle.disseminate.specs.Views.{grown, heldOr, viewDisseminator, PackedHeaps}
+use Rattle.disseminate.specs.Views.{emitted, grown, heldOr, viewDisseminator, PackedHeaps}
 
 module _ (h : Heap) (p : Packed h) (g : W.Gossip Addr) where
   abbrev answer : Bool → Grown
-  answer u = pick u (record { heap = h; full = true }) (record { heap = packHeap (push W.unused W.sendsOf (heapView h) (entryOf here g)); full = false })
+  answer u = pick u (record { heap = h; full = true }) (record { heap = emitted h g; full = false })
 
   pub grow-full : 128 ≤ h .len → record { heap = h; full = true } ≡ grown h g
   grow-full k = sym (ap answer (le-leb 128 (length (heapView h)) (omega (arith, view-length h p))))
 
-  pub grow-held : (r : Heap) (size : ℕ) → h .len < 128 → size ≡ sizeOf here g
-      → r ≡ packHeap (push W.unused W.sendsOf (heapView h) (record { gossip = g; sends = 0; size = size })) → record { heap = r; full = false } ≡ grown h g
-  grow-held r size k s e =
-      ap (λ (x : Heap). record { heap = x; full = false })
-      (e ∙ ap (λ (n : ℕ). packHeap (push W.unused W.sendsOf (heapView h) (record { gossip = g; sends = 0; size = n }))) s)
-      ∙ sym (ap answer (lt-leb 128 (length (heapView h)) (omega (arith, view-length h p))))
+  pub grow-held : (r : Heap) → h .len < 128 → r ≡ emitted h g → record { heap = r; full = false } ≡ grown h g
+  grow-held r k e =
+      ap (λ (x : Heap). record { heap = x; full = false }) e ∙ sym (ap answer (lt-leb 128 (length (heapView h)) (omega (arith, view-length h p))))
 
 -- a disseminator whose heap of a kind has grown, or could not
 module _ (d : Disseminator) (p : PackedHeaps d) (g : W.Gossip Addr) where
@@ -46,7 +42,7 @@ module _ (d : Disseminator) (p : PackedHeaps d) (g : W.Gossip Addr) where
       elim (leb 128 (length (heapView (d .alive)))) as (λ u. record { disseminator = record { alive = answer (d .alive) (p .alive) g u .heap; deceased = d .deceased }; full = answer (d .alive) (p .alive) g u .full }
       ≡ heldOr d (when u (refused HeapFull) (done (record { alive = push W.unused W.sendsOf (heapView (d .alive)) (entryOf here g); deceased = heapView (d .deceased) }) []))) [
         | true ↦ refl
-        | false ↦ λ i. record { disseminator = record { alive = packHeap (push W.unused W.sendsOf (heapView (d .alive)) (entryOf here g)); deceased = sym (pack-view (d .deceased) (p .deceased)) i }; full = false }
+        | false ↦ λ i. record { disseminator = record { alive = emitted (d .alive) g; deceased = sym (pack-view (d .deceased) (p .deceased)) i }; full = false }
       ]
 
   pub deceased-pushed : record { disseminator = record { alive = d .alive; deceased = grown (d .deceased) g .heap }; full = grown (d .deceased) g .full } ≡ heldOr d (pushed here kind.Deceased g (viewDisseminator d) [])
@@ -55,7 +51,7 @@ module _ (d : Disseminator) (p : PackedHeaps d) (g : W.Gossip Addr) where
       elim (leb 128 (length (heapView (d .deceased)))) as (λ u. record { disseminator = record { alive = d .alive; deceased = answer (d .deceased) (p .deceased) g u .heap }; full = answer (d .deceased) (p .deceased) g u .full }
       ≡ heldOr d (when u (refused HeapFull) (done (record { alive = heapView (d .alive); deceased = push W.unused W.sendsOf (heapView (d .deceased)) (entryOf here g) }) []))) [
         | true ↦ refl
-        | false ↦ λ i. record { disseminator = record { alive = sym (pack-view (d .alive) (p .alive)) i; deceased = packHeap (push W.unused W.sendsOf (heapView (d .deceased)) (entryOf here g)) }; full = false }
+        | false ↦ λ i. record { disseminator = record { alive = sym (pack-view (d .alive) (p .alive)) i; deceased = emitted (d .deceased) g }; full = false }
       ]
 
 module _ (limit : ℕ) (e : W.Entry Addr) (h : List (W.Entry Addr)) where

@@ -7,6 +7,8 @@ use mathlib.Core.Option.{Option, none, some}
 use Prim.Native.Nat.{ℕ, zero, suc, _+_, _*_, _≤_, _<_}
 use lib.ListN.{length, getD, take, replicate}
 use lib.Dec.{leb}
+use Rattle.model.specs.declared.Kind.{Kind}
+use Rattle.model.specs.declared.Kind.the-variants as kind
 use Rattle.model.specs.Rows.{pick, padTo}
 use Rattle.model.specs.Answers.{Answer, refused, done}
 use Rattle.address.specs.Here.{Addr, here}
@@ -29,13 +31,13 @@ use Rattle.disseminate.specs.declared.Terms.{Terms}
 use Rattle.disseminate.specs.declared.Chosen.{Chosen}
 use Rattle.disseminate.specs.declared.Choice.{Choice}
 
-abbrev pub viewDisseminator : Disseminator → N.Disseminator ℕ
+abbrev pub viewDisseminator : Disseminator → N.Disseminator Addr
 viewDisseminator d = record { alive = heapView (d .alive); deceased = heapView (d .deceased) }
 
-abbrev pub packDisseminator : N.Disseminator ℕ → Disseminator
+abbrev pub packDisseminator : N.Disseminator Addr → Disseminator
 packDisseminator d = record { alive = packHeap (d .alive); deceased = packHeap (d .deceased) }
 
-abbrev pub noNews : N.Disseminator ℕ
+abbrev pub noNews : N.Disseminator Addr
 noNews = record { alive = []; deceased = [] }
 
 pub record PackedHeaps (d : Disseminator) : Type 0 where
@@ -46,15 +48,30 @@ pub record PackedHeaps (d : Disseminator) : Type 0 where
 pub both-back : (d : Disseminator) → PackedHeaps d → packDisseminator (viewDisseminator d) ≡ d
 both-back d p = λ i. record { alive = pack-view (d .alive) (p .alive) i; deceased = pack-view (d .deceased) (p .deceased) i }
 
--- a heap with one gossip more, or as it came since it was full
+-- which heap: is it the same one, and which of two numbers is its own
+abbrev pub sameKind : Kind → Kind → Bool
+sameKind kind.Alive kind.Alive = true
+sameKind kind.Alive kind.Deceased = false
+sameKind kind.Deceased kind.Alive = false
+sameKind kind.Deceased kind.Deceased = true
+
+abbrev pub ofKind : Kind → ℕ → ℕ → ℕ
+ofKind kind.Alive alive deceased = alive
+ofKind kind.Deceased alive deceased = deceased
+
+-- a heap with one gossip more
+abbrev pub emitted : Heap → W.Gossip Addr → Heap
+emitted h g = packHeap (push W.unused W.sendsOf (heapView h) (M.entryOf here g))
+
+-- the same, or as it came since it was full
 abbrev pub grown : Heap → W.Gossip Addr → Grown
 grown h g =
     pick (leb 128 (length (heapView h)))
     (record { heap = h; full = true })
-    (record { heap = packHeap (push W.unused W.sendsOf (heapView h) (M.entryOf here g)); full = false })
+    (record { heap = emitted h g; full = false })
 
 -- the heaps after a push that was not refused, or as they came
-abbrev pub heldOr : Disseminator → Answer (N.Disseminator ℕ) → Pushed
+abbrev pub heldOr : Disseminator → Answer (N.Disseminator Addr) → Pushed
 heldOr d (refused r) = record { disseminator = d; full = true }
 heldOr d (done x ds) = record { disseminator = packDisseminator x; full = false }
 

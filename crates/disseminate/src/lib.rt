@@ -21,7 +21,33 @@ ghost use Rattle.model.specs.Sound.{inRange};
 ghost use Rattle.laws_choose.specs.GoodHeap.{GoodHeap};
 ghost use Rattle.types.specs.Views.{toGossip};
 ghost use Rattle.heap.specs.Views.{toEntry, heapView, packHeap, Packed};
-ghost use Rattle.disseminate.specs.Views.{noted as notedOf, toTerms, fromTerms, chosenNone, packChoice, PackedChosen, NotedOne, Room, NotedIf, topOf, Open, grown, heldOr, noNews, viewDisseminator, packDisseminator, PackedHeaps, fromFound};
+ghost use Rattle.disseminate.specs.Views.{noted as notedOf, toTerms, fromTerms, chosenNone, packChoice, PackedChosen, NotedOne, Room, NotedIf, topOf, Open, sameKind, ofKind, emitted, grown, heldOr, noNews, viewDisseminator, packDisseminator, PackedHeaps, fromFound};
+
+// Do two kinds name the same heap?
+pub fn same_kind(a: Kind, b: Kind) -> bool
+    ensures { λ r. ⌜ r ≡ sameKind a b ⌝ }
+{
+    match a {
+        Kind::Alive => match b {
+            Kind::Alive => true,
+            Kind::Deceased => false,
+        },
+        Kind::Deceased => match b {
+            Kind::Alive => false,
+            Kind::Deceased => true,
+        },
+    }
+}
+
+// Of two numbers, one for each heap, that of a kind's.
+pub fn of_kind(kind: Kind, alive: usize, deceased: usize) -> usize
+    ensures { λ r. ⌜ r ≡ ofKind kind alive deceased ⌝ }
+{
+    match kind {
+        Kind::Alive => alive,
+        Kind::Deceased => deceased,
+    }
+}
 
 // What a node spreads: what is known of the living, and deaths.
 pub struct Disseminator {
@@ -42,6 +68,18 @@ pub struct Grown {
 }
 
 // A gossip comes into a heap: not sent yet, with its size.
+pub fn emit(h: Heap, g: Gossip) -> Heap
+    requires { ⌜ Packed h × (h .len < 128) ⌝ }
+    ensures { λ r. ⌜ r ≡ emitted h (toGossip g) ⌝ }
+{
+    h.push(Entry {
+        gossip: g,
+        sends: 0,
+        size: types::size_of(g),
+    })
+}
+
+// The same, or the heap as it came where it is full.
 fn grow(h: Heap, g: Gossip) -> Grown
     requires { ⌜ Packed h ⌝ }
     ensures { λ r. ⌜ r ≡ grown h (toGossip g) ⌝ }
@@ -52,13 +90,8 @@ fn grow(h: Heap, g: Gossip) -> Grown
             full: true,
         };
     }
-    let e = Entry {
-        gossip: g,
-        sends: 0,
-        size: types::size_of(g),
-    };
     Grown {
-        heap: h.push(e),
+        heap: emit(h, g),
         full: false,
     }
 }

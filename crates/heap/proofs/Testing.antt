@@ -1,235 +1,168 @@
--- The test of a heap: what each way out of it says.
+-- The test of a heap, entry by entry and place by place.
 -- Assumes nothing.
 use mathlib.Core.Path.{_≡_, refl, ap, sym, _∙_}
 use mathlib.Core.Bool.{Bool, true, false, _&&_}
 use mathlib.Core.List.{List, [], _∷_, map}
-use Prim.Native.Nat.{ℕ, zero, suc, _+_, _≤_, _<_}
+use Prim.Native.Nat.{ℕ, zero, suc, _+_, _-_, _≤_, _<_}
 use native.Mathlib.Omega.{arith}
 use native.Mathlib.Nat.{le-of-suc-le-suc, not-suc-le-zero}
-use native.Mathlib.Numerals.{add-one}
-use lib.Dec.{eqb, leb}
-use lib.ListN.{length, getD, take, drop, length-map, drop-of-length-le, List·getD-map}
-use lib.Seq.{take-suc, take-all, getD-take, length-take-le, drop-cons}
-use borrow.Author.Tests.{eq-eqb, ne-eqb, le-leb, lt-leb}
-use Rattle.model.specs.Rows.{every}
+use lib.Dec.{eqb, leb, ltb}
+use lib.ListN.{length, getD, drop, length-drop, List·getD-map}
+use lib.Seq.{getD-take, getD-drop, length-take-le}
+use borrow.Author.Tests.{le-leb, ltb-true, ltb-false, lt-ltb, le-ltb}
 use Rattle.address.specs.Here.{Addr, here}
+use Rattle.model.specs.Rows.{pick, every}
 use Rattle.model.specs.Words as W
 use Rattle.model.specs.Words.{partsOf}
-use Rattle.model.specs.Size.{sizeOf}
+use Rattle.model.specs.Size.{sizeOver, sizeOf}
 use Rattle.model.specs.Heap.{parent, rank, allBelow, inOrder}
-use Rattle.model.specs.Sound as S
+use Rattle.model.specs.Node.{Row, inUse}
 use Rattle.model.specs.Sound.{ofKind, validGossip, soundEntry, isUnused, soundHeap}
-use Rattle.laws.specs.Bools.{and-join, every-append}
-use Rattle.laws_heap.specs.HeapTests.{all-less, all-more, all-fails}
-use Rattle.laws.specs.Lists.{map-take}
-use Rattle.types.specs.declared.Parts.{Parts}
-use Rattle.types.specs.Views.{toEvent, toGossip, fromParts}
-use Rattle.heap.specs.declared.Entry.{Entry}
-use Rattle.heap.specs.declared.Heap.{Heap}
 use Rattle.model.specs.declared.Kind.{Kind}
 use Rattle.model.specs.declared.Kind.the-variants.{Alive, Deceased}
+use Rattle.laws.specs.Bools.{and-join, and-split}
+use Rattle.laws_heap.specs.HeapTests.{all-at, all-from, all-fails}
+use Rattle.types.specs.declared.Parts.{Parts}
+use Rattle.types.specs.Views.{toEvent, fromParts}
+use Rattle.heap.specs.declared.Entry.{Entry}
 use Rattle.heap.specs.Views.{toEntry, noEntry}
-use Rattle.heap.specs.Kinds.{rowView}
+
+-- what the code asks of an entry, by the parts of its event
+abbrev asked : Kind → Entry → Parts → Bool
+asked kind e p =
+    ofKind kind (p .kind)
+    && eqb (e .size) (sizeOver (here .chars (p .from)) (here .chars (p .subject)) (p .number))
+    && leb (e .sends) 22
+    && (here .valid (p .from) && here .valid (p .subject))
+
+-- no event is of no heap's kind, so that its size and its addresses don't matter
+pub entry-by-parts : (kind : Kind) (e : Entry) (p : Parts) → p ≡ fromParts (partsOf here (toEvent (e .gossip .event))) → asked kind e p ≡ soundEntry here kind (toEntry e)
+unfolding soundEntry validGossip partsOf sizeOf
+entry-by-parts kind e p q = ap (asked kind e) q ∙ by kind (toEvent (e .gossip .event))
+  where
+    by : (k : Kind) (v : W.Event Addr) → asked k e (fromParts (partsOf here v)) ≡ soundEntry here k (record { gossip = record { event = v }; sends = e .sends; size = e .size })
+    by Alive W.Nothing = refl
+    by Deceased W.Nothing = refl
+    by k (W.Joined f s n) = refl
+    by k (W.Recovered f s n) = refl
+    by k (W.Suspected f s n) = refl
+    by k (W.Deceased f s n) = refl
+
+pub unused-by-parts : (e : Entry) (p : Parts) → p ≡ fromParts (partsOf here (toEvent (e .gossip .event))) → (eqb (p .kind) 0 && eqb (e .sends) 0 && eqb (e .size) 0) ≡ isUnused here (toEntry e)
+unused-by-parts e p q = ap (λ (x : Parts). eqb (x .kind) 0 && eqb (e .sends) 0 && eqb (e .size) 0) q
 
 and-none : (a : Bool) → (a && false) ≡ false
 and-none true = refl
 and-none false = refl
 
--- the kind of an event
-module _ (kind : Kind) (k : ℕ) where
-  pub alive-below : kind ≡ Alive → k < 1 → false ≡ ofKind kind k
-  alive-below e h = sym (ap (λ (x : Kind). ofKind x k) e ∙ ap (λ (u : Bool). u && leb k 3) (lt-leb 1 k h))
+-- one of four clauses fails
+fails-2 : (a b c d : Bool) → b ≡ false → false ≡ (a && b && c && d)
+fails-2 a b c d e = rw (e, and-none a)
 
-  pub alive-from : kind ≡ Alive → 1 ≤ k → leb k 3 ≡ ofKind kind k
-  alive-from e h = sym (ap (λ (x : Kind). ofKind x k) e ∙ ap (λ (u : Bool). u && leb k 3) (le-leb 1 k h))
+fails-3 : (a b c d : Bool) → c ≡ false → false ≡ (a && b && c && d)
+fails-3 a b c d e = rw (e, and-none (a && b))
 
-  pub deceased-is : kind ≡ Deceased → eqb k 4 ≡ ofKind kind k
-  deceased-is e = sym (ap (λ (x : Kind). ofKind x k) e)
-
--- an entry, by the parts of its event
-module _ (e : Entry) (p : Parts) (q : p ≡ fromParts (partsOf here (toEvent (e .gossip .event)))) where
-  module _ (kind : Kind) (u : Bool) (x : u ≡ ofKind kind (p .kind)) where
-    abbrev chain : Bool → Bool → Bool → Bool → Bool
-    chain a b c d = a && b && c && d
-
-    kinds : ofKind kind (partsOf here (toEvent (e .gossip .event)) .kind) ≡ u
-    kinds = ap (λ (r : Parts). ofKind kind (r .kind)) (sym q) ∙ sym x
-
-    abbrev sizes : Bool
-    sizes = eqb (e .size) (sizeOf here (toGossip (e .gossip)))
-
-    abbrev range : Bool
-    range = validGossip here (toGossip (e .gossip))
-
-    pub wrong-kind : u ≡ false → false ≡ soundEntry here kind (toEntry e)
-    unfolding soundEntry
-    wrong-kind h = sym (ap (λ (a : Bool). chain a sizes (leb (e .sends) 22) range) (kinds ∙ h))
-
-    module _ (h : u ≡ true) (z : ℕ) (y : z ≡ sizeOf here (toGossip (e .gossip))) where
-      pub wrong-size : (e .size ≡ z → ⊥) → false ≡ soundEntry here kind (toEntry e)
-      unfolding soundEntry
-      wrong-size n =
-          sym
-          (ap (λ (a : Bool). chain a sizes (leb (e .sends) 22) range) (kinds ∙ h)
-          ∙ ap (λ (b : Bool). chain true b (leb (e .sends) 22) range) (ne-eqb (e .size) (sizeOf here (toGossip (e .gossip))) (λ w. n (w ∙ sym y))))
-
-      module _ (s : e .size ≡ z) where
-        sized : chain (ofKind kind (partsOf here (toEvent (e .gossip .event)) .kind)) sizes (leb (e .sends) 22) range ≡ chain true true (leb (e .sends) 22) range
-        sized =
-            ap (λ (a : Bool). chain a sizes (leb (e .sends) 22) range) (kinds ∙ h)
-            ∙ ap (λ (b : Bool). chain true b (leb (e .sends) 22) range) (eq-eqb (e .size) (sizeOf here (toGossip (e .gossip))) (s ∙ y))
-
-        pub too-often : 22 < e .sends → false ≡ soundEntry here kind (toEntry e)
-        unfolding soundEntry
-        too-often l = sym (sized ∙ ap (λ (c : Bool). chain true true c range) (lt-leb (e .sends) 22 l))
-
-        pub range-decides : (v : Bool) → v ≡ range → e .sends ≤ 22 → v ≡ soundEntry here kind (toEntry e)
-        unfolding soundEntry
-        range-decides v w l = w ∙ sym (sized ∙ ap (λ (c : Bool). chain true true c range) (le-leb (e .sends) 22 l))
-
-  abbrev marks : Bool → Bool → Bool → Bool
-  marks a b c = a && b && c
-
-  abbrev none : Bool
-  none = eqb (partsOf here (toEvent (e .gossip .event)) .kind) 0
-
-  none-is : none ≡ eqb (p .kind) 0
-  none-is = ap (λ (r : Parts). eqb (r .kind) 0) (sym q)
-
-  pub some-event : (p .kind ≡ 0 → ⊥) → false ≡ isUnused here (toEntry e)
-  some-event n = sym (ap (λ (a : Bool). marks a (eqb (e .sends) 0) (eqb (e .size) 0)) (none-is ∙ ne-eqb (p .kind) 0 n))
-
-  pub some-sends : p .kind ≡ 0 → (e .sends ≡ 0 → ⊥) → false ≡ isUnused here (toEntry e)
-  some-sends k n =
-      sym
-      (ap (λ (a : Bool). marks a (eqb (e .sends) 0) (eqb (e .size) 0)) (none-is ∙ eq-eqb (p .kind) 0 k)
-      ∙ ap (λ (b : Bool). marks true b (eqb (e .size) 0)) (ne-eqb (e .sends) 0 n))
-
-  pub size-decides : p .kind ≡ 0 → e .sends ≡ 0 → eqb (e .size) 0 ≡ isUnused here (toEntry e)
-  size-decides k n =
-      sym
-      (ap (λ (a : Bool). marks a (eqb (e .sends) 0) (eqb (e .size) 0)) (none-is ∙ eq-eqb (p .kind) 0 k)
-      ∙ ap (λ (b : Bool). marks true b (eqb (e .size) 0)) (eq-eqb (e .sends) 0 n))
+fails-4 : (a b c d : Bool) → d ≡ false → false ≡ (a && b && c && d)
+fails-4 a b c d e = rw (e, and-none (a && b && c))
 
 -- a test of every element, place by place
 module _ {A : Type 0} (f : A → Bool) (d : A) where
+  every-from : (l : List A) → ((j : ℕ) → j < length l → f (getD l j d) ≡ true) → every f l ≡ true
+  every-from [] h = refl
+  every-from (x ∷ l) h = and-join (h 0 (omega arith)) (every-from l (λ j k. h (suc j) (omega arith)))
+
   every-fails : (l : List A) (i : ℕ) → i < length l → f (getD l i d) ≡ false → every f l ≡ false
   every-fails [] i h e = absurd (not-suc-le-zero h)
   every-fails (x ∷ l) zero h e = rw e
   every-fails (x ∷ l) (suc i) h e = ap (λ (u : Bool). f x && u) (every-fails l i (le-of-suc-le-suc h) e) ∙ and-none (f x)
 
-  every-more : (l : List A) (i : ℕ) → i < length l → every f (take i l) ≡ true → f (getD l i d) ≡ true → every f (take (i + 1) l) ≡ true
-  every-more l i h e g =
-      rw (add-one i, take-suc l i d h) (every-append f (take i l) (getD l i d ∷ []) e (and-join g refl))
+-- a row, place by place: used ones are sound and sent no less often than the one above, others unused
+module _ (kind : Kind) (r : Row (W.Entry Addr)) where
+  abbrev at : ℕ → W.Entry Addr
+  at j = getD (r .places) j W.unused
 
--- the used places, one after the other
-module _ (kind : Kind) (len : ℕ) (es : List Entry) where
-  abbrev pub used : List (W.Entry Addr)
-  used = map toEntry (take len es)
+  abbrev used-well : ℕ → Bool
+  used-well j = soundEntry here kind (at j) && leb (at (parent j) .sends) (at j .sends)
 
-  abbrev pub order : ℕ → Bool
-  order j = leb (rank W.unused W.sendsOf used (parent j)) (rank W.unused W.sendsOf used j)
+  unfoldable pub place : ℕ → Bool
+  place j = pick (ltb j (r .used)) (used-well j) (isUnused here (at j))
 
-  -- the first i pass
-  pub record Passed (i : ℕ) : Type 0 where
-    pub entries : every (soundEntry here kind) (take i used) ≡ true
-    pub ranks : allBelow order i ≡ true
+  abbrev entries-sound : Bool
+  entries-sound = every (soundEntry here kind) (inUse r)
 
-  pub passed-none : Passed 0
-  unfolding allBelow
-  passed-none = record { entries = refl; ranks = refl }
+  abbrev rest-unused : Bool
+  rest-unused = every (isUnused here) (drop (r .used) (r .places))
 
-  module _ (fits : len ≤ length es) where
-    long : length used ≡ len
-    long = length-map (take len es) toEntry ∙ length-take-le len es fits
+  abbrev order : ℕ → Bool
+  order j = leb (rank W.unused W.sendsOf (inUse r) (parent j)) (rank W.unused W.sendsOf (inUse r) j)
 
-    at : (i : ℕ) → i < len → getD used i W.unused ≡ toEntry (getD es i noEntry)
-    at i h = List·getD-map toEntry (take len es) i noEntry ∙ ap toEntry (getD-take len es i noEntry h)
+  module _ (few : r .used ≤ 128) (whole : length (r .places) ≡ 128) where
+    long : length (inUse r) ≡ r .used
+    long = length-take-le (r .used) (r .places) (omega arith)
 
-    module _ (i : ℕ) (h : i < len) (u : Bool) (x : u ≡ soundEntry here kind (toEntry (getD es i noEntry))) where
-      pub entry-fails : u ≡ false → false ≡ (every (soundEntry here kind) used && inOrder W.unused W.sendsOf used len)
-      entry-fails e =
-          sym
-          (ap (λ (b : Bool). b && inOrder W.unused W.sendsOf used len)
-          (every-fails (soundEntry here kind) W.unused used i (omega (arith, long)) (ap (soundEntry here kind) (at i h) ∙ sym x ∙ e)))
+    in-use : (j : ℕ) → j < r .used → getD (inUse r) j W.unused ≡ at j
+    in-use j h = getD-take (r .used) (r .places) j W.unused h
 
-      module _ (c : ℕ) (z : c ≡ parent i) where
-        sends-at : rank W.unused W.sendsOf used i ≡ getD es i noEntry .sends
-        sends-at = ap W.sendsOf (at i h)
+    ordered : (j : ℕ) → j < r .used → order j ≡ leb (at (parent j) .sends) (at j .sends)
+    ordered j h = rw (in-use j h, in-use (parent j) (omega arith))
 
-        sends-over : rank W.unused W.sendsOf used (parent i) ≡ getD es c noEntry .sends
-        sends-over = ap W.sendsOf (at (parent i) (omega arith)) ∙ ap (λ (j : ℕ). getD es j noEntry .sends) (sym z)
+    behind : (j : ℕ) → r .used ≤ j → getD (drop (r .used) (r .places)) (j - r .used) W.unused ≡ at j
+    behind j h =
+        getD-drop (r .used) (r .places) (j - r .used) W.unused
+        ∙ ap at (omega arith)
 
-        pub order-fails : getD es i noEntry .sends < getD es c noEntry .sends → false ≡ (every (soundEntry here kind) used && inOrder W.unused W.sendsOf used len)
-        order-fails l =
-            sym
-            (ap (λ (b : Bool). every (soundEntry here kind) used && b)
-            (all-fails order len i h (lt-leb (rank W.unused W.sendsOf used (parent i)) (rank W.unused W.sendsOf used i) (omega (arith, sends-at, sends-over))))
-            ∙ and-none (every (soundEntry here kind) used))
+    pub all-pass : allBelow place 128 ≡ true → true ≡ soundHeap here kind r
+    unfolding soundHeap place
+    all-pass p = sym (and-join (and-join (and-join (le-leb _ _ few) entries) orders) rest)
+      where
+        passed : (j : ℕ) → j < r .used → (soundEntry here kind (at j) ≡ true) × (leb (at (parent j) .sends) (at j .sends) ≡ true)
+        passed j h = and-split _ _ (sym (ap (λ (u : Bool). pick u (used-well j) (isUnused here (at j))) (lt-ltb j (r .used) h)) ∙ all-at place 128 j (omega arith) p)
 
-        pub passed-more : u ≡ true → getD es c noEntry .sends ≤ getD es i noEntry .sends → Passed i → Passed (i + 1)
-        passed-more e l p =
-            record {
-              entries = every-more (soundEntry here kind) W.unused used i (omega (arith, long)) (p .entries) (ap (soundEntry here kind) (at i h) ∙ sym x ∙ e);
-              ranks = all-more order i (p .ranks) (le-leb (rank W.unused W.sendsOf used (parent i)) (rank W.unused W.sendsOf used i) (omega (arith, sends-at, sends-over)));
-            }
+        entries : every (soundEntry here kind) (inUse r) ≡ true
+        entries = every-from (soundEntry here kind) W.unused (inUse r) (λ j h. rw (in-use j (omega (arith, long))) (passed j (omega (arith, long)) .0))
 
-    pub passed-all : (i : ℕ) → len ≤ i → Passed i → true ≡ (every (soundEntry here kind) used && inOrder W.unused W.sendsOf used len)
-    passed-all i h p =
-        let a : every (soundEntry here kind) used ≡ true =
-        ap (every (soundEntry here kind)) (sym (take-all i used (omega (arith, long)))) ∙ p .entries in
-        sym (and-join a (all-less order i len h (p .ranks)))
+        orders : inOrder W.unused W.sendsOf (inUse r) (r .used) ≡ true
+        orders = all-from order (r .used) (λ j h. ordered j h ∙ passed j h .1)
 
--- the places behind them
-module _ (es : List Entry) where
-  abbrev pub behind : ℕ → Bool
-  behind i = every (isUnused here) (map toEntry (drop i es))
+        rest : every (isUnused here) (drop (r .used) (r .places)) ≡ true
+        rest =
+            every-from (isUnused here) W.unused (drop (r .used) (r .places))
+            (λ j h.
+            rw (getD-drop (r .used) (r .places) j W.unused)
+            (sym (ap (λ (u : Bool). pick u (used-well (r .used + j)) (isUnused here (at (r .used + j)))) (le-ltb (r .used + j) (r .used) (omega arith)))
+            ∙ all-at place 128 (r .used + j) (omega (arith, length-drop (r .used) (r .places))) p))
 
-  next : (i : ℕ) → i < length es → behind i ≡ (isUnused here (toEntry (getD es i noEntry)) && behind (i + 1))
-  next i h = rw (drop-cons es i noEntry h, add-one i)
+    pub place-fails : (i : ℕ) → i < 128 → place i ≡ false → false ≡ soundHeap here kind r
+    unfolding soundHeap place
+    place-fails i h =
+        (elim (ltb i (r .used)) as (λ u. ltb i (r .used) ≡ u → pick u (used-well i) (isUnused here (at i)) ≡ false → false ≡ soundHeap here kind r) [
+          | true ↦ λ e. used-fails (ltb-true i (r .used) e)
+          | false ↦ λ e f.
+              fails-4 (leb (r .used) 128) entries-sound (allBelow order (r .used)) rest-unused
+              (every-fails (isUnused here) W.unused (drop (r .used) (r .places)) (i - r .used)
+              (omega (arith, length-drop (r .used) (r .places), ltb-false i (r .used) e))
+              (ap (isUnused here) (behind i (ltb-false i (r .used) e)) ∙ f))
+        ])
+        refl
+      where
+        used-fails : i < r .used → used-well i ≡ false → false ≡ soundHeap here kind r
+        used-fails l =
+            (elim (soundEntry here kind (at i)) as (λ u. soundEntry here kind (at i) ≡ u → (u && leb (at (parent i) .sends) (at i .sends)) ≡ false → false ≡ soundHeap here kind r) [
+              | true ↦ λ e f. fails-3 (leb (r .used) 128) entries-sound (allBelow order (r .used)) rest-unused (all-fails order (r .used) i l (ordered i l ∙ f))
+              | false ↦ λ e f.
+                  fails-2 (leb (r .used) 128) entries-sound (allBelow order (r .used)) rest-unused
+                  (every-fails (soundEntry here kind) W.unused (inUse r) i (omega (arith, long)) (ap (soundEntry here kind) (in-use i l) ∙ e))
+            ])
+            refl
 
-  module _ (i : ℕ) (h : i < length es) (u : Bool) (x : u ≡ isUnused here (toEntry (getD es i noEntry))) where
-    pub behind-fails : u ≡ false → behind i ≡ false
-    behind-fails e = next i h ∙ ap (λ (b : Bool). b && behind (i + 1)) (sym x ∙ e)
+-- the code's rows, and its question of a place
+abbrev pub rowOver : ℕ → List Entry → Row (W.Entry Addr)
+rowOver len es = record { places = map toEntry es; used = len }
 
-    pub behind-on : u ≡ true → behind i ≡ behind (i + 1)
-    behind-on e = next i h ∙ ap (λ (b : Bool). b && behind (i + 1)) (sym x ∙ e)
-
-  pub behind-none : (i : ℕ) → length es ≤ i → behind i ≡ true
-  behind-none i h = rw (drop-of-length-le es h)
-
-pub map-drop : {A B : Type 0} (f : A → B) (n : ℕ) (l : List A) → map f (drop n l) ≡ drop n (map f l)
-map-drop f zero l = refl
-map-drop f (suc n) [] = refl
-map-drop f (suc n) (x ∷ l) = map-drop f n l
-
--- the whole test
-module _ (h : Heap) (kind : Kind) where
-  abbrev clauses : Bool → Bool → Bool → Bool → Bool
-  clauses a b c d = a && b && c && d
-
-  abbrev held : List (W.Entry Addr)
-  held = map toEntry (take (h .len) (h .entries))
-
-  whole : soundHeap here kind (rowView h) ≡ clauses (leb (h .len) 128) (every (soundEntry here kind) held) (inOrder W.unused W.sendsOf held (h .len)) (behind (h .entries) (h .len))
-  unfolding soundHeap
-  whole = rw (map-take toEntry (h .len) (h .entries), map-drop toEntry (h .len) (h .entries))
-
-  pub too-long : 128 < h .len → false ≡ soundHeap here kind (rowView h)
-  too-long l =
-      sym
-      (whole
-      ∙ ap (λ (a : Bool). clauses a (every (soundEntry here kind) held) (inOrder W.unused W.sendsOf held (h .len)) (behind (h .entries) (h .len))) (lt-leb (h .len) 128 l))
-
-  module _ (l : h .len ≤ 128) (u : Bool) (x : u ≡ (every (soundEntry here kind) held && inOrder W.unused W.sendsOf held (h .len))) where
-    short : soundHeap here kind (rowView h) ≡ (u && behind (h .entries) (h .len))
-    short =
-        whole
-        ∙ ap (λ (a : Bool). clauses a (every (soundEntry here kind) held) (inOrder W.unused W.sendsOf held (h .len)) (behind (h .entries) (h .len))) (le-leb (h .len) 128 l)
-        ∙ ap (λ (b : Bool). b && behind (h .entries) (h .len)) (sym x)
-
-    pub used-fails : u ≡ false → false ≡ soundHeap here kind (rowView h)
-    used-fails e = sym (short ∙ ap (λ (b : Bool). b && behind (h .entries) (h .len)) e)
-
-    pub rest-decides : (v : Bool) → v ≡ behind (h .entries) (h .len) → u ≡ true → v ≡ soundHeap here kind (rowView h)
-    rest-decides v w e = w ∙ sym (short ∙ ap (λ (b : Bool). b && behind (h .entries) (h .len)) e)
+pub at-place :
+    (kind : Kind) (len : ℕ) (es : List Entry) (i c : ℕ) (u : Bool) →
+    c ≡ parent i →
+    u ≡ pick (ltb i len) (soundEntry here kind (toEntry (getD es i noEntry)) && leb (getD es c noEntry .sends) (getD es i noEntry .sends)) (isUnused here (toEntry (getD es i noEntry))) →
+    place kind (rowOver len es) i ≡ u
+unfolding place
+at-place kind len es i c u e x = rw (x, e, List·getD-map toEntry es i noEntry, List·getD-map toEntry es (parent i) noEntry)

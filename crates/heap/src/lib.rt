@@ -1,7 +1,6 @@
 // A heap of gossip: fewer sends is nearer the top.
 pub mod sound;
 
-use types::Event;
 use types::Gossip;
 ghost use mathlib.Core.Path.{_≡_};
 ghost use mathlib.Core.List.{[]};
@@ -31,9 +30,7 @@ impl Entry {
     pub fn empty() -> Entry
         ensures { λ r. ⌜ r ≡ noEntry ⌝ }
     {
-        let g = Gossip {
-            event: Event::Nothing,
-        };
+        let g = Gossip::none();
         Entry {
             gossip: g,
             sends: 0,

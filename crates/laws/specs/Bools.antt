@@ -76,13 +76,3 @@ module _ {A : Type 0} (f : A → Bool) (d : A) (l : List A) (t : Bool) (i : ℕ)
 
   pub loop-ends : length l ≤ i → t ≡ true
   loop-ends h = sym rest ∙ ap (every f) (drop-of-length-le l h)
-
--- three tests in their turn
-pub first-of-three : (x y z : Bool) → x ≡ false → false ≡ (x && y && z)
-first-of-three x y z e = rw e
-
-pub second-of-three : (x y z : Bool) → x ≡ true → y ≡ false → false ≡ (x && y && z)
-second-of-three x y z e f = rw (e, f)
-
-pub third-of-three : (x y z : Bool) → x ≡ true → y ≡ true → z ≡ (x && y && z)
-third-of-three x y z e f = rw (e, f)

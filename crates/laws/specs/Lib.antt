@@ -5,5 +5,5 @@ pub mod Counts
 pub mod Pad
 pub mod Packing
 pub mod Padded
-pub mod Closing
+pub mod Loops
 pub mod Ranges

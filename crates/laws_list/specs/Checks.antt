@@ -1,4 +1,4 @@
--- A loop that tests each place of a list, and one that marks: each passed place is found in the other list, at a place not yet marked.
+-- A loop that marks: each passed place is found in the other list, at a place not yet marked.
 -- Assumes nothing.
 use mathlib.Core.Path.{_≡_, refl, ap, sym, _∙_}
 use mathlib.Core.Bool.{Bool, true, false, _&&_}
@@ -7,36 +7,15 @@ use Prim.Native.Nat.{ℕ, suc, _+_, _≤_, _<_}
 use native.Mathlib.Omega.{arith}
 use native.Mathlib.Decide.{ℕ-discrete}
 use native.Mathlib.Numerals.{add-one}
-use lib.ListN.{length, getD, set, take, drop, take-append-drop, drop-of-length-le}
+use lib.ListN.{length, getD, set, take, drop, take-append-drop}
 use lib.Seq.{drop-cons, take-suc, take-all, getD-set-same, getD-set-other}
 use borrow.Author.Tests.{lt-ltb, le-ltb}
-use Rattle.model.specs.Rows.{one, pick, every, has, occurs, Test}
+use Rattle.model.specs.Rows.{one, pick, has, occurs, Test}
 use Rattle.model.specs.Sound.{distinct, permutes}
 use Rattle.laws.specs.Counts.{occurs-append, has-le, has-none}
 use Rattle.laws_list.specs.Distinct.{all-in, once-distinct, distinct-once, permutes-counts, counts-permutes, pigeons}
 use Rattle.laws_list.specs.Held.{has-append}
 use Rattle.laws_list.specs.Places.{placeOf, has-place, place-holds}
-
--- the test of each place from one on is that of each place from i on: those between have passed
-module _ {A : Type 0} (f : A → Bool) where
-  unfoldable pub Checked : List A → ℕ → ℕ → Type 0
-  Checked l from i = every f (drop from l) ≡ every f (drop i l)
-
-  pub check-start : (l : List A) (from : ℕ) → Checked l from from
-  unfolding Checked
-  check-start l from = refl
-
-  pub check-fails : (d : A) (l : List A) (from i : ℕ) → Checked l from i → i < length l → f (getD l i d) ≡ false → false ≡ every f (drop from l)
-  unfolding Checked
-  check-fails d l from i c h e = sym (c ∙ rw (drop-cons l i d h, e))
-
-  pub check-next : (d : A) (l : List A) (from i : ℕ) → Checked l from i → i < length l → f (getD l i d) ≡ true → Checked l from (i + 1)
-  unfolding Checked
-  check-next d l from i c h e = c ∙ rw (drop-cons l i d h, e, add-one i)
-
-  pub check-end : (l : List A) (from i : ℕ) → Checked l from i → length l ≤ i → true ≡ every f (drop from l)
-  unfolding Checked
-  check-end l from i c h = sym (c ∙ rw (drop-of-length-le l {i = i} h))
 
 and-false : (x y : Bool) → y ≡ false → (x && y) ≡ false
 and-false true y e = e

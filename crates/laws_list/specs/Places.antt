@@ -1,51 +1,27 @@
--- The place of an address in a list, which a loop finds, and what each rule by addresses comes to at that place.
+-- The place of an address in a list, and what each rule by addresses comes to at that place.
 -- Assumes nothing.
 use mathlib.Core.Path.{_≡_, refl, ap, sym, _∙_}
 use mathlib.Core.Bool.{Bool, true, false}
 use mathlib.Core.List.{List, [], _∷_}
-use Prim.Native.Nat.{ℕ, suc, _+_, _≤_, _<_}
+use Prim.Native.Nat.{ℕ, suc, _<_}
 use native.Mathlib.Omega.{arith}
 use native.Mathlib.Nat.{not-suc-le-zero, le-of-suc-le-suc}
-use native.Mathlib.Numerals.{add-one}
-use lib.ListN.{length, getD, set, drop, drop-of-length-le}
-use lib.Seq.{drop-cons}
+use lib.ListN.{length, getD, set}
 use lib.Dec.{ltb}
 use borrow.Author.Tests.{lt-ltb, le-ltb, ltb-true, ltb-false}
 use Rattle.model.specs.declared.State.the-variants.{Alive}
 use Rattle.model.specs.Rows.{pick, removeAt, has, erase, Test}
 use Rattle.model.specs.Words.{Member}
+use Rattle.laws.specs.Loops.{firstPlace}
 use Rattle.model.specs.Members.{addrs, strike, put, held, heldState}
 
 module _ {A : Type 0} (same : A → A → Bool) where
   -- the first place that holds a, or the length where there is none
-  unfoldable pub placeOf : A → List A → ℕ
-  placeOf a [] = 0
-  placeOf a (x ∷ l) = pick (same a x) 0 (suc (placeOf a l))
-
-  -- a loop has passed i places, none of which holds a: it starts, goes on, finds a, or ends
-  unfoldable pub Scanned : A → List A → ℕ → Type 0
-  Scanned a l i = placeOf a l ≡ i + placeOf a (drop i l)
-
-  pub scan-start : (a : A) (l : List A) → Scanned a l 0
-  unfolding Scanned
-  scan-start a l = omega arith
-
-  pub scan-found : (a d : A) (l : List A) (i : ℕ) → Scanned a l i → i < length l → same a (getD l i d) ≡ true → i ≡ placeOf a l
-  unfolding Scanned placeOf
-  scan-found a d l i s h e = let z : placeOf a (drop i l) ≡ 0 = rw (drop-cons l i d h, e) in omega arith
-
-  pub scan-next : (a d : A) (l : List A) (i : ℕ) → Scanned a l i → i < length l → same a (getD l i d) ≡ false → Scanned a l (i + 1)
-  unfolding Scanned placeOf
-  scan-next a d l i s h e =
-      let z : placeOf a (drop i l) ≡ suc (placeOf a (drop (suc i) l)) = rw (drop-cons l i d h, e) in
-      rw (add-one i) (omega arith)
-
-  pub scan-end : (a : A) (l : List A) (i : ℕ) → Scanned a l i → length l ≤ i → i ≡ placeOf a l
-  unfolding Scanned placeOf
-  scan-end a l i s h = let z : placeOf a (drop i l) ≡ 0 = rw (drop-of-length-le l {i = i} h) in omega arith
+  abbrev pub placeOf : A → List A → ℕ
+  placeOf a = firstPlace (same a)
 
   pub has-place : (a : A) (l : List A) → has same a l ≡ ltb (placeOf a l) (length l)
-  unfolding placeOf
+  unfolding firstPlace
   has-place a [] = sym (le-ltb 0 0 (omega arith))
   has-place a (x ∷ l) =
       elim (same a x) as (λ u. pick u true (has same a l) ≡ ltb (pick u 0 (suc (placeOf a l))) (suc (length l))) [
@@ -61,7 +37,7 @@ module _ {A : Type 0} (same : A → A → Bool) where
           ]) refl
 
   pub erase-place : (a : A) (l : List A) → erase same a l ≡ removeAt l (placeOf a l)
-  unfolding placeOf
+  unfolding firstPlace
   erase-place a [] = refl
   erase-place a (x ∷ l) =
       elim (same a x) as (λ u. pick u l (x ∷ erase same a l) ≡ removeAt (x ∷ l) (pick u 0 (suc (placeOf a l)))) [
@@ -70,7 +46,7 @@ module _ {A : Type 0} (same : A → A → Bool) where
       ]
 
   pub strike-place : (a : A) (t : List (Member A)) → strike same a t ≡ removeAt t (placeOf a (addrs t))
-  unfolding placeOf
+  unfolding firstPlace
   strike-place a [] = refl
   strike-place a (m ∷ t) =
       elim (same a (m .addr)) as (λ u. pick u t (m ∷ strike same a t) ≡ removeAt (m ∷ t) (pick u 0 (suc (placeOf a (addrs t))))) [
@@ -79,7 +55,7 @@ module _ {A : Type 0} (same : A → A → Bool) where
       ]
 
   pub put-place : (k : Member A) (t : List (Member A)) → put same k t ≡ set t (placeOf (k .addr) (addrs t)) k
-  unfolding placeOf
+  unfolding firstPlace
   put-place k [] = refl
   put-place k (m ∷ t) =
       elim (same (k .addr) (m .addr)) as (λ u. pick u (k ∷ t) (m ∷ put same k t) ≡ set (m ∷ t) (pick u 0 (suc (placeOf (k .addr) (addrs t)))) k) [
@@ -88,7 +64,7 @@ module _ {A : Type 0} (same : A → A → Bool) where
       ]
 
   pub held-place : (a : A) (t : List (Member A)) (d : Member A) → d .number ≡ 0 → held same a t ≡ getD t (placeOf a (addrs t)) d .number
-  unfolding placeOf
+  unfolding firstPlace
   held-place a [] d e = sym e
   held-place a (m ∷ t) d e =
       elim (same a (m .addr)) as (λ u. pick u (m .number) (held same a t) ≡ getD (m ∷ t) (pick u 0 (suc (placeOf a (addrs t)))) d .number) [
@@ -97,7 +73,7 @@ module _ {A : Type 0} (same : A → A → Bool) where
       ]
 
   pub state-place : (a : A) (t : List (Member A)) (d : Member A) → d .state ≡ Alive → heldState same a t ≡ getD t (placeOf a (addrs t)) d .state
-  unfolding placeOf
+  unfolding firstPlace
   state-place a [] d e = sym e
   state-place a (m ∷ t) d e =
       elim (same a (m .addr)) as (λ u. pick u (m .state) (heldState same a t) ≡ getD (m ∷ t) (pick u 0 (suc (placeOf a (addrs t)))) d .state) [
@@ -108,7 +84,7 @@ module _ {A : Type 0} (same : A → A → Bool) where
   module _ (test : Test same) where
     -- what stands at the place of a is a
     pub place-holds : (a d : A) (l : List A) → placeOf a l < length l → getD l (placeOf a l) d ≡ a
-    unfolding placeOf
+    unfolding firstPlace
     place-holds a d [] h = absurd (not-suc-le-zero h)
     place-holds a d (x ∷ l) h =
         (elim (same a x) as (λ u. same a x ≡ u → pick u 0 (suc (placeOf a l)) < suc (length l) → getD (x ∷ l) (pick u 0 (suc (placeOf a l))) d ≡ a) [

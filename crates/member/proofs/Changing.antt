@@ -1,7 +1,7 @@
 -- What each lookup and each change of the rows comes to in the list of the rules.
 -- Assumes nothing.
 use mathlib.Core.Path.{_≡_, refl, ap, sym, _∙_}
-use mathlib.Core.Bool.{true, false}
+use mathlib.Core.Bool.{Bool, true, false}
 use mathlib.Core.List.{List, [], _∷_, _++_, map}
 use Prim.Native.Nat.{ℕ, suc, _+_, _-_, _≤_, _<_, _%_}
 use native.Mathlib.Omega.{arith}
@@ -12,6 +12,7 @@ use borrow.Author.Tests.{le-leb, lt-leb, ltb-true, ltb-false, lt-ltb, le-ltb, eq
 use Rattle.model.specs.declared.State.the-variants.{Alive}
 use Rattle.model.specs.declared.Refusal.the-variants.{ListFull, DrawsShort}
 use Rattle.model.specs.Rows.{one, pick, insertAt, removeAt, padTo, has, erase, occurs}
+use Rattle.laws.specs.Loops.{firstPlace, place-map}
 use Rattle.laws.specs.Pad.{length-removeAt}
 use Rattle.laws.specs.Padded.{pad-snoc, pad-set, removeAt-out}
 use Rattle.laws.specs.Counts.{has-le, has-none}
@@ -23,79 +24,79 @@ use Rattle.laws_list.specs.Places.{placeOf, has-place, erase-place, strike-plac
 use Rattle.model.specs.declared.Drew.the-variants.{Used, Refused}
 use Rattle.member.specs.declared.Member.{Member}
 use Rattle.member.specs.declared.Members.{Members}
+use Rattle.member.specs.declared.Standing.{Standing}
 use Rattle.member.specs.declared.Kept.{Kept}
-use Rattle.member.specs.Views.{toMember, fromMember, nobody, viewMembers, packMembers, Packed, Held, keptAs, addedOf}
+use Rattle.member.specs.Views.{toMember, fromMember, nobody, viewMembers, packMembers, Packed, Held, standingOf, keptAs, addedOf}
 use Rattle.member.specs.Packing.{table-used, order-used, view-many, pack-view}
 use Rattle.member.proofs.Tables.{record-at, removed-row, replaced-row, added-row}
 
 -- the table of the list, and the place of an address in it
-module _ (m : Members) (a : Addr) where
-  abbrev pub held-table : List (words.Member Addr)
-  held-table = map toMember (take (m .len) (m .table))
+abbrev held-table : Members → List (words.Member Addr)
+held-table m = viewMembers m .table
 
-  abbrev pub place-in : ℕ
-  place-in = placeOf (here .same) a (list.addrs held-table)
+abbrev place-in : Members → Addr → ℕ
+place-in m a = placeOf (here .same) a (list.addrs (held-table m))
+
+-- the same place in the rows
+pub place-is : (m : Members) (a : Addr) → firstPlace (λ (k : Member). here .same a (k .addr)) (take (m .len) (m .table)) ≡ place-in m a
+unfolding viewMembers
+place-is m a =
+    sym (place-map (here .same a) (λ (k : words.Member Addr). k .addr) (held-table m) ∙ place-map (λ (k : words.Member Addr). here .same a (k .addr)) toMember (take (m .len) (m .table)))
+
+addresses : (m : Members) → Packed m → length (list.addrs (held-table m)) ≡ m .len
+addresses m p = length-map (held-table m) (λ k. k .addr) ∙ view-many m p
+
+-- what a record says of its address
+abbrev says : Bool → ℕ → Member → Standing
+says listed place k = record { listed = listed; place = place; state = k .state; number = k .number }
 
 module _ (m : Members) (p : Packed m) (a : Addr) (place : ℕ) (e : place ≡ place-in m a) where
-  long : length (held-table m a) ≡ m .len
-  long = length-map (take (m .len) (m .table)) toMember ∙ table-used m p
+  -- the list says what the record at the place of the address does, which is nobody's behind the used places
+  said : (k : Member) → getD (held-table m) place (words.noMember here) ≡ toMember k → says (ltb place (m .len)) place k ≡ standingOf m a
+  said k q =
+      let at : toMember k ≡ getD (held-table m) (place-in m a) (words.noMember here) = sym q ∙ ap (λ (i : ℕ). getD (held-table m) i (words.noMember here)) e in
+      λ i. record {
+        listed = ((λ j. ltb (e j) (sym (addresses m p) j)) ∙ sym (has-place (here .same) a (list.addrs (held-table m)))) i;
+        place = e i;
+        state = (ap (λ (r : words.Member Addr). r .state) at ∙ sym (state-place (here .same) a (held-table m) (words.noMember here) refl)) i;
+        number = (ap (λ (r : words.Member Addr). r .number) at ∙ sym (held-place (here .same) a (held-table m) (words.noMember here) refl)) i;
+      }
 
-  addresses : length (list.addrs (held-table m a)) ≡ m .len
-  addresses = length-map (held-table m a) (λ k. k .addr) ∙ long
-
-  -- an address is listed if its place is a used one
-  pub lists-is : ltb place (m .len) ≡ list.listed (here .same) a (viewMembers m .table)
+  pub said-listed : place < m .len → says true place (getD (m .table) place nobody) ≡ standingOf m a
   unfolding viewMembers
-  lists-is = (λ i. ltb (e i) (sym addresses i)) ∙ sym (has-place (here .same) a (list.addrs (held-table m a)))
+  said-listed h =
+      let k = getD (m .table) place nobody in
+      ap (λ (b : Bool). says b place k) (sym (lt-ltb place (m .len) h)) ∙ said k (record-at (m .len) (m .table) place h)
 
-  -- one that is not listed has number 0 and is Alive
-  pub number-none : place ≡ m .len → 0 ≡ list.held (here .same) a (viewMembers m .table)
-  unfolding viewMembers
-  number-none h =
-      sym (held-place (here .same) a (held-table m a) (words.noMember here) refl
-      ∙ ap (λ (k : words.Member Addr). k .number) (List·getD-eq-default (held-table m a) (words.noMember here) (omega (arith, long))))
-
-  pub state-none : place ≡ m .len → Alive ≡ list.heldState (here .same) a (viewMembers m .table)
-  unfolding viewMembers
-  state-none h =
-      sym (state-place (here .same) a (held-table m a) (words.noMember here) refl
-      ∙ ap (λ (k : words.Member Addr). k .state) (List·getD-eq-default (held-table m a) (words.noMember here) (omega (arith, long))))
-
-  at-place : place < m .len → getD (held-table m a) (place-in m a) (words.noMember here) ≡ toMember (getD (m .table) place nobody)
-  at-place h = ap (λ (i : ℕ). getD (held-table m a) i (words.noMember here)) (sym e) ∙ record-at (m .len) (m .table) place h
-
-  pub number-is : place < m .len → getD (m .table) place nobody .number ≡ list.held (here .same) a (viewMembers m .table)
-  unfolding viewMembers
-  number-is h = sym (held-place (here .same) a (held-table m a) (words.noMember here) refl ∙ ap (λ (k : words.Member Addr). k .number) (at-place h))
-
-  pub state-is : place < m .len → getD (m .table) place nobody .state ≡ list.heldState (here .same) a (viewMembers m .table)
-  unfolding viewMembers
-  state-is h = sym (state-place (here .same) a (held-table m a) (words.noMember here) refl ∙ ap (λ (k : words.Member Addr). k .state) (at-place h))
+  pub said-absent : place ≡ m .len → says false (m .len) nobody ≡ standingOf m a
+  said-absent h =
+      (λ i. says (sym (le-ltb place (m .len) (omega arith)) i) (sym h i) nobody)
+      ∙ said nobody (List·getD-eq-default (held-table m) (words.noMember here) (omega (arith, view-many m p)))
 
 module _ (m : Members) (p : Packed m) (k : Member) (place : ℕ) (e : place ≡ place-in m (k .addr)) where
-  put-is : list.put (here .same) (toMember k) (held-table m (k .addr)) ≡ set (held-table m (k .addr)) place (toMember k)
-  put-is = put-place (here .same) (toMember k) (held-table m (k .addr)) ∙ ap (λ (i : ℕ). set (held-table m (k .addr)) i (toMember k)) (sym e)
+  put-is : list.put (here .same) (toMember k) (held-table m) ≡ set (held-table m) place (toMember k)
+  put-is = put-place (here .same) (toMember k) (held-table m) ∙ ap (λ (i : ℕ). set (held-table m) i (toMember k)) (sym e)
 
   pub updated-none : place ≡ m .len → m ≡ packMembers (list.update (here .same) (toMember k) (viewMembers m))
   unfolding list.update viewMembers
   updated-none h =
-      let t : list.put (here .same) (toMember k) (held-table m (k .addr)) ≡ held-table m (k .addr) =
-      put-is ∙ set-out (held-table m (k .addr)) place (toMember k) (omega (arith, long m p (k .addr) place e)) in
-      sym (ap (λ (l : List (words.Member Addr)). packMembers (record { table = l; order = take (m .len) (m .order); position = m .position })) t ∙ pack-view m p)
+      let t : list.put (here .same) (toMember k) (held-table m) ≡ held-table m =
+      put-is ∙ set-out (held-table m) place (toMember k) (omega (arith, view-many m p)) in
+      sym (ap (λ (l : List (words.Member Addr)). packMembers (record { table = l; order = take (m .len) (m .order .row); position = m .order .position })) t ∙ pack-view m p)
 
   pub updated : place < m .len
-      → _≡_ {A = Members} (record { table = set (m .table) place k; order = m .order; len = m .len; position = m .position })
+      → _≡_ {A = Members} (record { table = set (m .table) place k; len = m .len; order = m .order })
       (packMembers (list.update (here .same) (toMember k) (viewMembers m)))
   unfolding list.update viewMembers packMembers
   updated h =
       let u = take (m .len) (m .table) in
-      let t : set (m .table) place k ≡ padTo 64 nobody (map fromMember (list.put (here .same) (toMember k) (held-table m (k .addr)))) =
+      let t : set (m .table) place k ≡ padTo 64 nobody (map fromMember (list.put (here .same) (toMember k) (held-table m))) =
       ap (λ (l : List Member). set l place k) (p .table)
       ∙ pad-set 64 nobody u place k (omega (arith, table-used m p))
       ∙ ap (padTo 64 nobody) (sym (ap (map fromMember) put-is ∙ replaced-row u place k)) in
-      let n : m .len ≡ length (list.put (here .same) (toMember k) (held-table m (k .addr))) =
-      sym (ap length put-is ∙ length-set (held-table m (k .addr)) place (toMember k) ∙ long m p (k .addr) place e) in
-      λ i. record { table = t i; order = p .order i; len = n i; position = m .position }
+      let n : m .len ≡ length (list.put (here .same) (toMember k) (held-table m)) =
+      sym (ap length put-is ∙ length-set (held-table m) place (toMember k) ∙ view-many m p) in
+      λ i. record { table = t i; len = n i; order = record { row = p .order i; position = m .order .position } }
 
 -- the position of a list that nothing leaves
 position-stays : (q n : ℕ) → q ≤ n - 1 → list.positionAfter (here .same) q n ≡ q
@@ -107,17 +108,17 @@ position-stays q n h =
 
 module _ (m : Members) (g : Held m) (a : Addr) (place : ℕ) (e : place ≡ place-in m a) where
   -- as often in the order as in the table
-  as-often : occurs (here .same) a (take (m .len) (m .order)) ≡ occurs (here .same) a (list.addrs (held-table m a))
+  as-often : occurs (here .same) a (take (m .len) (m .order .row)) ≡ occurs (here .same) a (list.addrs (held-table m))
   unfolding viewMembers
   as-often = g .whole .counts a
 
   -- the place in the order is a used one if that in the table is, and none otherwise
-  pub order-place : (at : ℕ) → at ≡ placeOf (here .same) a (take (m .len) (m .order)) → place < m .len → at < m .len
+  pub order-place : (at : ℕ) → at ≡ placeOf (here .same) a (take (m .len) (m .order .row)) → place < m .len → at < m .len
   order-place at q h =
-      let l = list.addrs (held-table m a) in
-      let o = take (m .len) (m .order) in
+      let l = list.addrs (held-table m) in
+      let o = take (m .len) (m .order .row) in
       let listed : has (here .same) a l ≡ true =
-      has-place (here .same) a l ∙ lt-ltb (placeOf (here .same) a l) (length l) (omega (arith, addresses m (g .packed) a place e)) in
+      has-place (here .same) a l ∙ lt-ltb (placeOf (here .same) a l) (length l) (omega (arith, addresses m (g .packed))) in
       let in-l : 0 < occurs (here .same) a l = omega (arith, has-le (here .same) a l, ap one listed) in
       let in-o : has (here .same) a o ≡ true =
       (elim (has (here .same) a o) as (λ u. has (here .same) a o ≡ u → u ≡ true) [
@@ -129,12 +130,12 @@ module _ (m : Members) (g : Held m) (a : Addr) (place : ℕ) (e : place ≡ plac
   pub removed-none : place ≡ m .len → m ≡ packMembers (list.remove (here .same) a (viewMembers m))
   unfolding list.remove viewMembers
   removed-none h =
-      let l = list.addrs (held-table m a) in
-      let o = take (m .len) (m .order) in
-      let t : list.strike (here .same) a (held-table m a) ≡ held-table m a =
-      strike-place (here .same) a (held-table m a) ∙ removeAt-out (held-table m a) (place-in m a) (omega (arith, long m (g .packed) a place e)) in
+      let l = list.addrs (held-table m) in
+      let o = take (m .len) (m .order .row) in
+      let t : list.strike (here .same) a (held-table m) ≡ held-table m =
+      strike-place (here .same) a (held-table m) ∙ removeAt-out (held-table m) (place-in m a) (omega (arith, view-many m (g .packed))) in
       let none-l : has (here .same) a l ≡ false =
-      has-place (here .same) a l ∙ le-ltb (placeOf (here .same) a l) (length l) (omega (arith, addresses m (g .packed) a place e)) in
+      has-place (here .same) a l ∙ le-ltb (placeOf (here .same) a l) (length l) (omega (arith, addresses m (g .packed))) in
       let none-o : has (here .same) a o ≡ false =
       (elim (has (here .same) a o) as (λ u. has (here .same) a o ≡ u → u ≡ false) [
         | true ↦ λ z. absurd (omega (arith, has-le (here .same) a o, ap one z, has-none (here .same) a l none-l, as-often))
@@ -143,33 +144,35 @@ module _ (m : Members) (g : Held m) (a : Addr) (place : ℕ) (e : place ≡ plac
       let r : erase (here .same) a o ≡ o =
       erase-place (here .same) a o ∙ removeAt-out o (placeOf (here .same) a o)
       (omega (arith, ltb-false (placeOf (here .same) a o) (length o) (sym (has-place (here .same) a o) ∙ none-o))) in
-      let s : list.positionAfter (here .same) (m .position) (length (erase (here .same) a o)) ≡ m .position =
-      ap (λ (x : List Addr). list.positionAfter (here .same) (m .position) (length x)) r ∙ position-stays (m .position) (length o) (g .whole .place) in
+      let s : list.positionAfter (here .same) (m .order .position) (length (erase (here .same) a o)) ≡ m .order .position =
+      ap (λ (x : List Addr). list.positionAfter (here .same) (m .order .position) (length x)) r ∙ position-stays (m .order .position) (length o) (g .whole .place) in
       sym ((λ i. packMembers (record { table = t i; order = r i; position = s i })) ∙ pack-view m (g .packed))
 
   pub removed : (at position : ℕ) (table : List Member) (order : List Addr) → place < m .len
-      → at ≡ placeOf (here .same) a (take (m .len) (m .order)) → table ≡ padTo 64 nobody (removeAt (take (m .len) (m .table)) place)
-      → order ≡ padTo 64 (here .blank) (removeAt (take (m .len) (m .order)) at) → position ≡ list.positionAfter (here .same) (m .position) (m .len - 1)
-      → _≡_ {A = Members} (record { table = table; order = order; len = m .len - 1; position = position })
+      → at ≡ placeOf (here .same) a (take (m .len) (m .order .row)) → table ≡ padTo 64 nobody (removeAt (take (m .len) (m .table)) place)
+      → order ≡ padTo 64 (here .blank) (removeAt (take (m .len) (m .order .row)) at) → position ≡ list.positionAfter (here .same) (m .order .position) (m .len - 1)
+      → _≡_ {A = Members} (record { table = table; len = m .len - 1; order = record { row = order; position = position } })
       (packMembers (list.remove (here .same) a (viewMembers m)))
   unfolding list.remove viewMembers packMembers
   removed at position table order h q tq oq pq =
-      let o = take (m .len) (m .order) in
+      let o = take (m .len) (m .order .row) in
       let below = order-place at q h in
-      let s : list.strike (here .same) a (held-table m a) ≡ removeAt (held-table m a) place =
-      strike-place (here .same) a (held-table m a) ∙ ap (removeAt (held-table m a)) (sym e) in
+      let s : list.strike (here .same) a (held-table m) ≡ removeAt (held-table m) place =
+      strike-place (here .same) a (held-table m) ∙ ap (removeAt (held-table m)) (sym e) in
       let r : erase (here .same) a o ≡ removeAt o at = erase-place (here .same) a o ∙ ap (removeAt o) (sym q) in
-      let t : table ≡ padTo 64 nobody (map fromMember (list.strike (here .same) a (held-table m a))) =
+      let t : table ≡ padTo 64 nobody (map fromMember (list.strike (here .same) a (held-table m))) =
       tq ∙ ap (padTo 64 nobody) (sym (ap (map fromMember) s ∙ removed-row (take (m .len) (m .table)) place)) in
-      let n : m .len - 1 ≡ length (list.strike (here .same) a (held-table m a)) =
-      omega (arith, ap length s, length-removeAt (held-table m a) place (omega (arith, long m (g .packed) a place e)), long m (g .packed) a place e) in
+      let n : m .len - 1 ≡ length (list.strike (here .same) a (held-table m)) =
+      omega (arith, ap length s, length-removeAt (held-table m) place (omega (arith, view-many m (g .packed))), view-many m (g .packed)) in
       let k : m .len - 1 ≡ length (erase (here .same) a o) =
       omega (arith, ap length r, length-removeAt o at (omega (arith, order-used m (g .packed))), order-used m (g .packed)) in
       λ i. record {
         table = t i;
-        order = (oq ∙ ap (padTo 64 (here .blank)) (sym r)) i;
         len = n i;
-        position = (pq ∙ ap (list.positionAfter (here .same) (m .position)) k) i;
+        order = record {
+          row = (oq ∙ ap (padTo 64 (here .blank)) (sym r)) i;
+          position = (pq ∙ ap (list.positionAfter (here .same) (m .order .position)) k) i;
+        };
       }
 
 -- each way out of an addition
@@ -197,15 +200,23 @@ module _ (m : Members) (p : Packed m) (a : Addr) (number : ℕ) (draws : List �
       (sym (add-short (viewMembers m) a number (drop from draws) (omega (arith, view-many m p)) (drop-of-length-le draws k)))
 
   -- the rows with one more
+  abbrev withAdded : List Addr → Members
+  withAdded order =
+      record {
+        table = set (m .table) (m .len) (record { addr = a; state = Alive; number = number });
+        len = m .len + 1;
+        order = record { row = order; position = m .order .position };
+      }
+
   added-rows : (order : List Addr) → m .len < 64
-      → order ≡ padTo 64 (here .blank) (insertAt (take (m .len) (m .order)) (getD draws from 0 % (m .len + 1)) a)
+      → order ≡ padTo 64 (here .blank) (insertAt (take (m .len) (m .order .row)) (getD draws from 0 % (m .len + 1)) a)
       → _≡_ {A = Members}
-      (record { table = set (m .table) (m .len) (record { addr = a; state = Alive; number = number }); order = order; len = m .len + 1; position = m .position })
+      (withAdded order)
       (packMembers (list.added (here .same) a number (getD draws from 0) (viewMembers m)))
   unfolding list.added viewMembers packMembers
   added-rows order h e =
       let u = take (m .len) (m .table) in
-      let o = take (m .len) (m .order) in
+      let o = take (m .len) (m .order .row) in
       let v : Member = record { addr = a; state = Alive; number = number } in
       let t : set (m .table) (m .len) v ≡ padTo 64 nobody (map fromMember (map toMember u ++ (toMember v ∷ []))) =
       ap (λ (l : List Member). set l (m .len) v) (p .table)
@@ -217,23 +228,14 @@ module _ (m : Members) (p : Packed m) (a : Addr) (number : ℕ) (draws : List �
       omega (arith, length-append (map toMember u) (toMember v ∷ []), length-map u toMember, table-used m p) in
       λ i. record {
         table = t i;
-        order = (e ∙ ap (λ (x : ℕ). padTo 64 (here .blank) (insertAt o (getD draws from 0 % x) a)) j) i;
         len = n i;
-        position = m .position;
+        order = record { row = (e ∙ ap (λ (x : ℕ). padTo 64 (here .blank) (insertAt o (getD draws from 0 % x) a)) j) i; position = m .order .position };
       }
 
   pub kept-added : (order : List Addr) → m .len < 64 → from < length draws
-      → order ≡ padTo 64 (here .blank) (insertAt (take (m .len) (m .order)) (getD draws from 0 % (m .len + 1)) a)
+      → order ≡ padTo 64 (here .blank) (insertAt (take (m .len) (m .order .row)) (getD draws from 0 % (m .len + 1)) a)
       → _≡_ {A = Kept}
-      (record {
-        members = record {
-          table = set (m .table) (m .len) (record { addr = a; state = Alive; number = number });
-          order = order;
-          len = m .len + 1;
-          position = m .position;
-        };
-        drew = Used 1;
-      })
+      (record { members = withAdded order; drew = Used 1 })
       (addedOf m a number draws from)
   kept-added order h k e =
       let q : 1 ≡ length draws - from - length (drop (suc from) draws) = omega (arith, length-drop (suc from) draws) in

@@ -24,14 +24,11 @@ use Rattle.member.specs.declared.Picked.{Picked}
 use Rattle.member.specs.Views.{toMember, fromMember, nobody, viewMembers, packMembers, Held, keptAs, advancedOf, pickedAs, pickedOf}
 use Rattle.member.specs.Packing.{order-long, table-used, order-used, from-to}
 
--- the order of a list with its position, and a list with another order
-abbrev pub orderOf : Members → Order
-orderOf m = record { row = m .order; position = m .position }
+-- a list with another order
+abbrev withOrder : Members → Order → Members
+withOrder m o = record { table = m .table; len = m .len; order = o }
 
-abbrev pub withOrder : Members → Order → Members
-withOrder m o = record { table = m .table; order = o .row; len = m .len; position = o .position }
-
-pub order-ready : (m : Members) → Held m → order.Ready (orderOf m) (m .len)
+pub order-ready : (m : Members) → Held m → order.Ready (m .order) (m .len)
 unfolding viewMembers
 order-ready m g =
     record { few = g .packed .few; long = order-long m (g .packed); place = omega (arith, g .whole .place, order-used m (g .packed)) }
@@ -42,52 +39,52 @@ module _ (m : Members) (g : Held m) where
 
   -- a list with another order, packed
   put-back : (l : list.Members Addr) → length (l .order) ≡ m .len
-      → withOrder m (order.packOrder (orderOf m) (m .len) l) ≡ packMembers (withTable table l)
+      → withOrder m (order.packOrder (m .order) (m .len) l) ≡ packMembers (withTable table l)
   unfolding packMembers table
   put-back l e =
       let p = g .packed in
       let u = take (m .len) (m .table) in
       let t : m .table ≡ padTo 64 nobody (map fromMember (map toMember u)) = p .table ∙ ap (padTo 64 nobody) (sym (from-to u)) in
-      let b : drop (m .len) (m .order) ≡ replicate (64 - length (take (m .len) (m .order))) (here .blank) =
-      ap (drop (m .len)) (p .order) ∙ drop-at (take (m .len) (m .order)) _ (m .len) (order-used m p) in
-      let k : 64 - length (take (m .len) (m .order)) ≡ 64 - length (l .order) = omega (arith, order-used m p) in
-      let r : l .order ++ drop (m .len) (m .order) ≡ padTo 64 (here .blank) (l .order) =
+      let b : drop (m .len) (m .order .row) ≡ replicate (64 - length (take (m .len) (m .order .row))) (here .blank) =
+      ap (drop (m .len)) (p .order) ∙ drop-at (take (m .len) (m .order .row)) _ (m .len) (order-used m p) in
+      let k : 64 - length (take (m .len) (m .order .row)) ≡ 64 - length (l .order) = omega (arith, order-used m p) in
+      let r : l .order ++ drop (m .len) (m .order .row) ≡ padTo 64 (here .blank) (l .order) =
       ap (λ (x : List Addr). l .order ++ x) (b ∙ ap (λ (i : ℕ). replicate i (here .blank)) k) in
       let n : m .len ≡ length (map toMember u) = sym (length-map u toMember ∙ table-used m p) in
-      λ i. record { table = t i; order = r i; len = n i; position = l .position }
+      λ i. record { table = t i; len = n i; order = record { row = r i; position = l .position } }
 
-  many : length (order.viewOrder (orderOf m) (m .len) .order) ≡ m .len
+  many : length (order.viewOrder (m .order) (m .len) .order) ≡ m .len
   many = order-used m (g .packed)
 
-  advanced-as : (k : ℕ) (x : Answer (list.Members Addr)) → After (Fits (order.viewOrder (orderOf m) (m .len))) x
-      → _≡_ {A = Kept} (record { members = withOrder m (order.turnedOrder (orderOf m) (m .len) x); drew = order.drewOf k x }) (keptAs m k (onAnswer (withTable table) x))
+  advanced-as : (k : ℕ) (x : Answer (list.Members Addr)) → After (Fits (order.viewOrder (m .order) (m .len))) x
+      → _≡_ {A = Kept} (record { members = withOrder m (order.turnedOrder (m .order) (m .len) x); drew = order.drewOf k x }) (keptAs m k (onAnswer (withTable table) x))
   advanced-as k (refused r) halts = refl
   advanced-as k (done l rest) (gives f) = λ i. record { members = put-back l (f .long ∙ many) i; drew = order.drewOf k (done l rest) }
 
-  pub advanced-is : (draws : List ℕ) (from : ℕ) (t : Turned) → 0 < m .len → t ≡ order.turnedOf (orderOf m) (m .len) draws from
+  pub advanced-is : (draws : List ℕ) (from : ℕ) (t : Turned) → 0 < m .len → t ≡ order.turnedOf (m .order) (m .len) draws from
       → _≡_ {A = Kept} (record { members = withOrder m (t .order); drew = t .drew }) (advancedOf m draws from)
   unfolding viewMembers table
   advanced-is draws from t h e =
-      let o = order.viewOrder (orderOf m) (m .len) in
+      let o = order.viewOrder (m .order) (m .len) in
       let x = list.advance (here .blank) o (drop from draws) in
       (λ i. record { members = withOrder m (e i .order); drew = e i .drew })
       ∙ advanced-as (length draws - from) x (advance-fits (here .blank) o (drop from draws) (omega (arith, many)))
       ∙ ap (keptAs m (length draws - from)) (sym (advance-aside table (here .blank) o (drop from draws)))
 
-  picked-as : (k : ℕ) (x : Answer (list.Picked Addr)) → After (λ p. Fits (order.viewOrder (orderOf m) (m .len)) (p .members)) x
+  picked-as : (k : ℕ) (x : Answer (list.Picked Addr)) → After (λ p. Fits (order.viewOrder (m .order) (m .len)) (p .members)) x
       → _≡_ {A = Picked}
-      (record { members = withOrder m (order.pickedOrder (orderOf m) (m .len) x); picks = order.pickedRow x; drew = order.drewOf k x })
+      (record { members = withOrder m (order.pickedOrder (m .order) (m .len) x); picks = order.pickedRow x; drew = order.drewOf k x })
       (pickedAs m k (onAnswer (pickedWith table) x))
   picked-as k (refused r) halts = refl
   picked-as k (done p rest) (gives f) =
       λ i. record { members = put-back (p .members) (f .long ∙ many) i; picks = order.picksOf (p .picks); drew = order.drewOf k (done p rest) }
 
   pub picked-is : (own : Addr) (e : Exclusion) (wanted : ℕ) (draws : List ℕ) (from : ℕ) (t : ordered.Picked)
-      → t ≡ order.pickedOf (orderOf m) (m .len) own e wanted draws from
+      → t ≡ order.pickedOf (m .order) (m .len) own e wanted draws from
       → _≡_ {A = Picked} (record { members = withOrder m (t .order); picks = t .picks; drew = t .drew }) (pickedOf m own e wanted draws from)
   unfolding viewMembers table
   picked-is own e wanted draws from t q =
-      let o = order.viewOrder (orderOf m) (m .len) in
+      let o = order.viewOrder (m .order) (m .len) in
       let x = list.pickFrom (here .same) (here .blank) own (order.excluded e) wanted o (drop from draws) in
       (λ i. record { members = withOrder m (q i .order); picks = q i .picks; drew = q i .drew })
       ∙ picked-as (length draws - from) x (pick-fits (here .blank) (here .same) own (order.excluded e) wanted o (drop from draws) (g .whole .place))

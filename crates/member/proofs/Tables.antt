@@ -2,27 +2,17 @@
 -- Assumes nothing.
 use mathlib.Core.Path.{_≡_, refl, ap, _∙_}
 use mathlib.Core.List.{List, [], _∷_, _++_, map}
-use Prim.Native.Nat.{ℕ, zero, suc, _+_, _-_, _≤_, _<_}
-use lib.ListN.{length, getD, set, take, length-map, List·getD-map}
-use lib.Seq.{length-take-le, getD-take}
+use Prim.Native.Nat.{ℕ, zero, suc, _<_}
+use lib.ListN.{getD, set, take, List·getD-map}
+use lib.Seq.{getD-take}
 use Rattle.model.specs.Rows.{removeAt}
-use Rattle.address.specs.Here.{Addr, here}
+use Rattle.address.specs.Here.{here}
 use Rattle.laws.specs.Packing.{map-removeAt}
 use Rattle.model.specs.Words as words
 use Rattle.model.specs.Members as list
 use Rattle.member.specs.declared.Member.{Member}
 use Rattle.member.specs.Views.{toMember, fromMember, nobody}
 use Rattle.member.specs.Packing.{from-to}
-
--- the addresses of the first n
-pub addrs-at : (n : ℕ) (t : List Member) (i : ℕ) → i < n → getD (list.addrs (map toMember (take n t))) i (here .blank) ≡ getD t i nobody .addr
-addrs-at n t i h =
-    List·getD-map (λ (m : words.Member Addr). m .addr) (map toMember (take n t)) i (words.noMember here)
-    ∙ ap (λ (m : words.Member Addr). m .addr) (List·getD-map toMember (take n t) i nobody)
-    ∙ ap (λ (m : Member). m .addr) (getD-take n t i nobody h)
-
-pub addrs-long : (n : ℕ) (t : List Member) → n ≤ length t → length (list.addrs (map toMember (take n t))) ≡ n
-addrs-long n t h = length-map (map toMember (take n t)) (λ m. m .addr) ∙ length-map (take n t) toMember ∙ length-take-le n t h
 
 -- the record at a place
 pub record-at : (n : ℕ) (t : List Member) (i : ℕ) → i < n → getD (map toMember (take n t)) i (words.noMember here) ≡ toMember (getD t i nobody)

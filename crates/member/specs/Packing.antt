@@ -20,15 +20,15 @@ use Rattle.member.specs.Views.{toMember, fromMember, nobody, viewMembers
 pub table-long : (m : Members) → Packed m → length (m .table) ≡ 64
 table-long m p = ap length (p .table) ∙ length-padTo 64 nobody (take (m .len) (m .table)) (omega (arith, length-take (m .len) (m .table), p .few))
 
-pub order-long : (m : Members) → Packed m → length (m .order) ≡ 64
-order-long m p = ap length (p .order) ∙ length-padTo 64 (here .blank) (take (m .len) (m .order)) (omega (arith, length-take (m .len) (m .order), p .few))
+pub order-long : (m : Members) → Packed m → length (m .order .row) ≡ 64
+order-long m p = ap length (p .order) ∙ length-padTo 64 (here .blank) (take (m .len) (m .order .row)) (omega (arith, length-take (m .len) (m .order .row), p .few))
 
 -- the used part of a packed row
 pub table-used : (m : Members) → Packed m → length (take (m .len) (m .table)) ≡ m .len
 table-used m p = length-take-le (m .len) (m .table) (omega (arith, table-long m p, p .few))
 
-pub order-used : (m : Members) → Packed m → length (take (m .len) (m .order)) ≡ m .len
-order-used m p = length-take-le (m .len) (m .order) (omega (arith, order-long m p, p .few))
+pub order-used : (m : Members) → Packed m → length (take (m .len) (m .order .row)) ≡ m .len
+order-used m p = length-take-le (m .len) (m .order .row) (omega (arith, order-long m p, p .few))
 
 -- the list is as long as the rows say
 pub view-many : (m : Members) → Packed m → length (viewMembers m .table) ≡ m .len
@@ -60,7 +60,7 @@ pack-view m p =
     let t : padTo 64 nobody (map fromMember (map toMember (take (m .len) (m .table)))) ≡ m .table =
     ap (padTo 64 nobody) (from-to (take (m .len) (m .table))) ∙ sym (p .table) in
     let n : length (map toMember (take (m .len) (m .table))) ≡ m .len = length-map (take (m .len) (m .table)) toMember ∙ table-used m p in
-    λ i. record { table = t i; order = sym (p .order) i; len = n i; position = m .position }
+    λ i. record { table = t i; len = n i; order = record { row = sym (p .order) i; position = m .order .position } }
 
 pub packed-pack : (l : list.Members Addr) → length (l .order) ≡ length (l .table) → length (l .table) ≤ 64 → Packed (packMembers l)
 unfolding packMembers

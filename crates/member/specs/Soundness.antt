@@ -87,10 +87,10 @@ sound-parts t o n p =
     (positioned p n) (every (here .valid) (take n (map addrOf t))) (every (isNoMember here) (drop n (map toMember t))) (every blankAddress (drop n o))
 
 -- all but the last test have passed
-pub sound-last : (m : Members) (u : Bool) → leb (m .len) 64 ≡ true → positioned (m .position) (m .len) ≡ true
+pub sound-last : (m : Members) (u : Bool) → leb (m .len) 64 ≡ true → positioned (m .order .position) (m .len) ≡ true
     → every (here .valid) (take (m .len) (map addrOf (m .table))) ≡ true → every (isNoMember here) (drop (m .len) (map toMember (m .table))) ≡ true
-    → every blankAddress (drop (m .len) (m .order)) ≡ true
+    → every blankAddress (drop (m .len) (m .order .row)) ≡ true
     → u ≡ (distinct (here .same) (take (m .len) (map addrOf (m .table)))
-    && permutes (here .same) (take (m .len) (m .order)) (take (m .len) (map addrOf (m .table))))
-    → u ≡ soundMembers here (map toMember (m .table)) (m .order) (m .len) (m .position)
-sound-last m u p q r s t v = last _ _ _ _ _ _ u v p q r s t ∙ sym (sound-parts (m .table) (m .order) (m .len) (m .position))
+    && permutes (here .same) (take (m .len) (m .order .row)) (take (m .len) (map addrOf (m .table))))
+    → u ≡ soundMembers here (map toMember (m .table)) (m .order .row) (m .len) (m .order .position)
+sound-last m u p q r s t v = last _ _ _ _ _ _ u v p q r s t ∙ sym (sound-parts (m .table) (m .order .row) (m .len) (m .order .position))

@@ -12,10 +12,12 @@ use Rattle.address.specs.Here.{Addr, here}
 use Rattle.model.specs.Words as words
 use Rattle.model.specs.Members as list
 use Rattle.laws_list.specs.Whole.{Whole}
+use Rattle.laws_list.specs.Places.{placeOf}
 use Rattle.order.specs.declared.Exclusion.{Exclusion}
 use Rattle.order.specs.Views.{drewOf, excluded, pickedRow}
 use Rattle.member.specs.declared.Member.{Member}
 use Rattle.member.specs.declared.Members.{Members}
+use Rattle.member.specs.declared.Standing.{Standing}
 use Rattle.member.specs.declared.Kept.{Kept}
 use Rattle.member.specs.declared.Picked.{Picked}
 
@@ -37,12 +39,16 @@ blankAddress a = here .same a (here .blank)
 
 -- the list that the rows hold
 unfoldable pub viewMembers : Members → list.Members Addr
-viewMembers m = record { table = map toMember (take (m .len) (m .table)); order = take (m .len) (m .order); position = m .position }
+viewMembers m = record { table = map toMember (take (m .len) (m .table)); order = take (m .len) (m .order .row); position = m .order .position }
 
 -- the rows that hold a list: every unused place is zero
 unfoldable pub packMembers : list.Members Addr → Members
 packMembers l =
-    record { table = padTo 64 nobody (map fromMember (l .table)); order = padTo 64 (here .blank) (l .order); len = length (l .table); position = l .position }
+    record {
+      table = padTo 64 nobody (map fromMember (l .table));
+      len = length (l .table);
+      order = record { row = padTo 64 (here .blank) (l .order); position = l .position };
+    }
 
 -- "it lists that address Alive at place 0"
 abbrev pub freshList : Addr → ℕ → list.Members Addr
@@ -52,12 +58,23 @@ freshList own number = record { table = record { addr = own; state = Alive; numb
 pub record Packed (m : Members) : Type 0 where
   pub few : m .len ≤ 64
   pub table : m .table ≡ padTo 64 nobody (take (m .len) (m .table))
-  pub order : m .order ≡ padTo 64 (here .blank) (take (m .len) (m .order))
+  pub order : m .order .row ≡ padTo 64 (here .blank) (take (m .len) (m .order .row))
 
 -- what each function asks of a list: its rows are packed, and the list they hold is whole
 pub record Held (m : Members) : Type 0 where
   pub packed : Packed m
   pub whole : Whole (here .same) (viewMembers m)
+
+-- what the list says of an address
+abbrev pub standingOf : Members → Addr → Standing
+standingOf m a =
+    let t = viewMembers m .table in
+    record {
+      listed = list.listed (here .same) a t;
+      place = placeOf (here .same) a (list.addrs t);
+      state = list.heldState (here .same) a t;
+      number = list.held (here .same) a t;
+    }
 
 -- a rule's answer in rows: where it is refused the members are as they came
 abbrev pub keptMembers : Members → Answer (list.Members Addr) → Members

@@ -9,16 +9,14 @@ use order::Exclusion;
 use order::Order;
 use order::Picks;
 ghost use mathlib.Core.Path.{_≡_};
-ghost use mathlib.Core.List.{map};
 ghost use Prim.Native.Nat.{_+_, _-_, _≤_, _<_};
 ghost use lib.ListN.{length, take, getD};
 ghost use lib.Dec.{eqb};
 ghost use Rattle.address.specs.Here.{here};
 ghost use Rattle.model.specs.Words.{noMember};
 ghost use Rattle.model.specs.Rows.{padTo, removeAt};
-ghost use Rattle.laws_list.specs.Places.{placeOf};
 ghost use Rattle.model.specs.Members as list;
-ghost use Rattle.member.specs.Views.{toMember, fromMember, nobody, viewMembers, packMembers, freshList, Held, addedOf, advancedOf, pickedOf};
+ghost use Rattle.member.specs.Views.{toMember, fromMember, nobody, viewMembers, packMembers, freshList, Held, standingOf, addedOf, advancedOf, pickedOf};
 
 // What is held of a listed peer.
 pub struct Member {
@@ -43,26 +41,16 @@ impl Member {
 // The first len places of both rows are used: the records as they came in, and the order that they are probed in.
 pub struct Members {
     pub table: [Member; Members::CAPACITY],
-    pub order: [Address; Members::CAPACITY],
     pub len: usize,
-    pub position: usize,
+    pub order: Order,
 }
 
-// The first place of the table that holds an address, or n where none of the first n does.
-fn place_of(table: [Member; Members::CAPACITY], n: usize, a: Address) -> usize
-    requires { ⌜ (n ≤ 64) × (length table ≡ 64) ⌝ }
-    ensures { λ r. ⌜ r ≡ placeOf (here .same) a (list.addrs (map toMember (take n table))) ⌝ }
-    ensures within { λ r. ⌜ r ≤ n ⌝ }
-{
-    let mut i = 0;
-    while i < n {
-        let m = table[i];
-        if address::same(a, m.addr) {
-            return i;
-        }
-        i += 1;
-    }
-    n
+// What a list says of an address: its place, its state and its number; or the length, Alive and 0 where it is not listed.
+pub struct Standing {
+    pub listed: bool,
+    pub place: usize,
+    pub state: State,
+    pub number: u64,
 }
 
 // A place of the first n goes, and the rest closes up.
@@ -124,13 +112,12 @@ impl Members {
             state: State::Alive,
             number,
         };
-        let mut order = [address::blank(); Members::CAPACITY];
-        order[0] = own;
+        let mut row = [address::blank(); Members::CAPACITY];
+        row[0] = own;
         Members {
             table,
-            order,
             len: 1,
-            position: 0,
+            order: Order { row, position: 0 },
         }
     }
 
@@ -160,14 +147,43 @@ impl Members {
         table[place]
     }
 
+    // The one scan of the table that every lookup and every change of a record goes by.
+    pub fn find(self, a: Address) -> Standing
+        requires { ⌜ Held self ⌝ }
+        ensures { λ r. ⌜ r ≡ standingOf self a ⌝ }
+        ensures within { λ r. ⌜ r .place ≤ self .len ⌝ }
+    {
+        let table = self.table;
+        let n = self.len;
+        let mut place = 0;
+        while place < n {
+            let m = table[place];
+            if address::same(a, m.addr) {
+                let state = m.state;
+                return Standing {
+                    listed: true,
+                    place,
+                    state,
+                    number: m.number,
+                };
+            }
+            place += 1;
+        }
+        Standing {
+            listed: false,
+            place: n,
+            state: State::Alive,
+            number: 0,
+        }
+    }
+
     // Is an address listed?
     pub fn lists(self, a: Address) -> bool
         requires { ⌜ Held self ⌝ }
         ensures { λ r. ⌜ r ≡ list.listed (here .same) a (viewMembers self .table) ⌝ }
     {
-        let table = self.table;
-        let n = self.len;
-        place_of(table, n, a) < n
+        let held = self.find(a);
+        held.listed
     }
 
     // The state of a listed address; Alive where it is not listed.
@@ -175,14 +191,8 @@ impl Members {
         requires { ⌜ Held self ⌝ }
         ensures { λ r. ⌜ r ≡ list.heldState (here .same) a (viewMembers self .table) ⌝ }
     {
-        let table = self.table;
-        let n = self.len;
-        let place = place_of(table, n, a);
-        if place == n {
-            return State::Alive;
-        }
-        let m = table[place];
-        m.state
+        let held = self.find(a);
+        held.state
     }
 
     // The number of a listed address; 0 where it is not listed.
@@ -190,14 +200,8 @@ impl Members {
         requires { ⌜ Held self ⌝ }
         ensures { λ r. ⌜ r ≡ list.held (here .same) a (viewMembers self .table) ⌝ }
     {
-        let table = self.table;
-        let n = self.len;
-        let place = place_of(table, n, a);
-        if place == n {
-            return 0;
-        }
-        let m = table[place];
-        m.number
+        let held = self.find(a);
+        held.number
     }
 
     // An address is added at the end of the table, Alive, and at draw mod (length + 1) of the order. That it is not listed is the caller's test.
@@ -220,9 +224,8 @@ impl Members {
         }
         let d = draws[from] % ((n + 1) as u64);
         let place = d as usize;
-        let row = self.order;
-        // The order by value, one place more.
-        let order = order::insert(row, n, place, a);
+        let order = self.order;
+        let row = order.row;
         let mut table = self.table;
         table[n] = Member {
             addr: a,
@@ -232,9 +235,12 @@ impl Members {
         Kept {
             members: Members {
                 table,
-                order,
                 len: n + 1,
-                position: self.position,
+                order: Order {
+                    // The row by value, one place more.
+                    row: order::insert(row, n, place, a),
+                    position: order.position,
+                },
             },
             drew: Drew::Used(1),
         }
@@ -246,41 +252,68 @@ impl Members {
         ensures { λ r. ⌜ r ≡ packMembers (list.remove (here .same) a (viewMembers self)) ⌝ }
     {
         let n = self.len;
-        let table = self.table;
-        let place = place_of(table, n, a);
-        if place == n {
+        let held = self.find(a);
+        if held.place == n {
             return self;
         }
-        let row = self.order;
+        let table = self.table;
+        let order = self.order;
+        let row = order.row;
         let at = order::find_place(&row, n, a);
         Members {
-            table: close_up(table, n, place),
-            // The order by value, one place less.
-            order: order::remove(row, n, at),
+            table: close_up(table, n, held.place),
             len: n - 1,
-            position: position_after(self.position, n - 1),
+            order: Order {
+                // The row by value, one place less.
+                row: order::remove(row, n, at),
+                position: position_after(order.position, n - 1),
+            },
         }
     }
 
-    // The record of a listed address is replaced. One that is not listed leaves the members as they came.
-    pub fn update_member(self, member: Member) -> Members
-        requires { ⌜ Held self ⌝ }
+    // A record at the place of its address. One that is not listed leaves the members as they came.
+    fn put(self, place: usize, member: Member) -> Members
+        requires { ⌜ Held self × (place ≡ standingOf self (member .addr) .place) × (place ≤ self .len) ⌝ }
         ensures { λ r. ⌜ r ≡ packMembers (list.update (here .same) (toMember member) (viewMembers self)) ⌝ }
     {
         let n = self.len;
-        let mut table = self.table;
-        let place = place_of(table, n, member.addr);
         if place == n {
             return self;
         }
+        let mut table = self.table;
         table[place] = member;
         let order = self.order;
         Members {
             table,
-            order,
             len: n,
-            position: self.position,
+            order,
         }
+    }
+
+    // The record of a listed address is replaced.
+    pub fn update_member(self, member: Member) -> Members
+        requires { ⌜ Held self ⌝ }
+        ensures { λ r. ⌜ r ≡ packMembers (list.update (here .same) (toMember member) (viewMembers self)) ⌝ }
+    {
+        let held = self.find(member.addr);
+        self.put(held.place, member)
+    }
+
+    // The number of a listed address is replaced, and its state stays.
+    pub fn raise_number(self, a: Address, number: u64) -> Members
+        requires { ⌜ Held self ⌝ }
+        ensures { λ r. ⌜ r ≡ packMembers (list.update (here .same) (record { addr = a; state = list.heldState (here .same) a (viewMembers self .table); number = number }) (viewMembers self)) ⌝ }
+    {
+        let held = self.find(a);
+        let state = held.state;
+        self.put(
+            held.place,
+            Member {
+                addr: a,
+                state,
+                number,
+            },
+        )
     }
 
     // Position + 1 mod length; on 0 the order is shuffled.
@@ -288,19 +321,15 @@ impl Members {
         requires { ⌜ Held self × (0 < self .len) × (from ≤ length (now draws)) ⌝ }
         ensures { λ r. ⌜ r ≡ advancedOf self (now (draws .entry)) from ⌝ }
     {
-        let row = self.order;
-        let position = self.position;
-        let turned = order::advance(Order { row, position }, self.len, draws, from);
-        let after = turned.order;
-        let order = after.row;
+        let turned = order::advance(self.order, self.len, draws, from);
         let table = self.table;
+        let order = turned.order;
         let drew = turned.drew;
         Kept {
             members: Members {
                 table,
-                order,
                 len: self.len,
-                position: after.position,
+                order,
             },
             drew,
         }
@@ -318,28 +347,16 @@ impl Members {
         requires { ⌜ Held self × (wanted ≤ 4) × (from ≤ length (now draws)) ⌝ }
         ensures { λ r. ⌜ r ≡ pickedOf self own exclusion wanted (now (draws .entry)) from ⌝ }
     {
-        let row = self.order;
-        let position = self.position;
-        let picked = order::pick(
-            Order { row, position },
-            self.len,
-            own,
-            exclusion,
-            wanted,
-            draws,
-            from,
-        );
-        let after = picked.order;
-        let order = after.row;
+        let picked = order::pick(self.order, self.len, own, exclusion, wanted, draws, from);
         let table = self.table;
+        let order = picked.order;
         let picks = picked.picks;
         let drew = picked.drew;
         Picked {
             members: Members {
                 table,
-                order,
                 len: self.len,
-                position: after.position,
+                order,
             },
             picks,
             drew,

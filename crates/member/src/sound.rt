@@ -122,26 +122,27 @@ fn order_ends(order: [Address; Members::CAPACITY], n: usize) -> bool
 
 // Counts, distinct addresses, the order a permutation of them, the position, addresses in range, and every unused place zero.
 pub fn sound_members(m: Members) -> bool
-    ensures { λ r. ⌜ r ≡ soundMembers here (map toMember (m .table)) (m .order) (m .len) (m .position) ⌝ }
+    ensures { λ r. ⌜ r ≡ soundMembers here (map toMember (m .table)) (m .order .row) (m .len) (m .order .position) ⌝ }
 {
     let n = m.len;
     if Members::CAPACITY < n {
         return false;
     }
-    if !well_placed(m.position, n) {
+    let order = m.order;
+    if !well_placed(order.position, n) {
         return false;
     }
     let table = m.table;
-    let order = m.order;
-    let row = addresses(table);
-    if !all_in_range(row, n) {
+    let row = order.row;
+    let listed = addresses(table);
+    if !all_in_range(listed, n) {
         return false;
     }
     if !table_ends(table, n) {
         return false;
     }
-    if !order_ends(order, n) {
+    if !order_ends(row, n) {
         return false;
     }
-    matches(row, order, n)
+    matches(listed, row, n)
 }

@@ -7,6 +7,9 @@ use Prim.Native.Nat.{ℕ, _+_, _-_, _≤_}
 use native.Mathlib.Omega.{arith}
 use lib.ListN.{length, drop}
 use lib.Dec.{leb}
+use borrow.Author.Tests.{leb-false}
+use Rattle.model.specs.declared.Kind.{Kind}
+use Rattle.model.specs.declared.Kind.the-variants as kind
 use Rattle.model.specs.declared.Refusal.{Refusal}
 use Rattle.model.specs.declared.Refusal.the-variants.{HeapFull}
 use Rattle.model.specs.declared.Drew.the-variants.{Used, Refused}
@@ -22,41 +25,34 @@ use Rattle.model.specs.Handler as handler
 use Rattle.order.specs.Ends.{drew-refused, Done, drew-done}
 use Rattle.member.specs.declared.Kept.{Kept}
 use Rattle.member.specs.Views.{viewMembers, packMembers, keptMembers}
+use Rattle.heap.specs.declared.Heap.{Heap}
+use Rattle.heap.specs.Views.{view-length, pack-view}
 use Rattle.disseminate.specs.declared.Disseminator.{Disseminator}
-use Rattle.disseminate.specs.declared.Pushed.{Pushed}
-use Rattle.disseminate.specs.Views.{heldOr, viewDisseminator, packDisseminator, both-back}
+use Rattle.disseminate.specs.Views.{ofKind, emitted, viewDisseminator, packDisseminator, both-back}
 use Rattle.rules.specs.Views.{listAfterOf}
 use Rattle.node.specs.declared.Node.{Node}
 use Rattle.node.specs.Views.{viewNode, packNode, withMembers, withDisseminator}
 use Rattle.node.specs.Rows.{Ready}
 use Rattle.node.specs.Parts.{ready-is}
-use Rattle.message.specs.Views.{toldOf, saidBy}
+use Rattle.message.specs.Views.{findsFull, RoomFor, toldTo, saidBy}
 use Rattle.message.specs.Drawn.{list-leaves}
 
--- a push that finds room or not, whatever draws are left
-module _ (d : Disseminator) (u : Bool) (after : M.Disseminator ℕ) (rest : List ℕ) where
-  abbrev answer : List ℕ → Answer (M.Disseminator ℕ)
-  answer ds = when u (refused HeapFull) (done after ds)
+-- what comes after an answer that was refused or not
+when-then : (u : Bool) (x : M.Disseminator Addr) (rest : List ℕ) (f : M.Disseminator Addr → List ℕ → Answer (M.Out Addr)) → andThen (when u (refused HeapFull) (done x rest)) f ≡ when u (refused HeapFull) (f x rest)
+unfolding when
+when-then true x rest f = refl
+when-then false x rest f = refl
 
-  push-full : heldOr d (answer []) .full ≡ true → answer rest ≡ refused HeapFull
-  unfolding when
-  push-full =
-      elim u as (λ v. heldOr d (when v (refused HeapFull) (done after [])) .full ≡ true → when v (refused HeapFull) (done after rest) ≡ refused HeapFull) [
-        | true ↦ λ e. refl
-        | false ↦ λ e. let z : _≡_ {A = ℕ} 0 1 = ap one e in absurd (omega arith)
-      ]
-
-  push-done : heldOr d (answer []) .full ≡ false → (answer rest ≡ done after rest) × (heldOr d (answer []) .disseminator ≡ packDisseminator after)
-  unfolding when
-  push-done =
-      elim u as (λ v. heldOr d (when v (refused HeapFull) (done after [])) .full ≡ false
-      → (when v (refused HeapFull) (done after rest) ≡ done after rest) × (heldOr d (when v (refused HeapFull) (done after [])) .disseminator ≡ packDisseminator after)) [
-        | true ↦ λ e. let z : _≡_ {A = ℕ} 1 0 = ap one e in absurd (omega arith)
-        | false ↦ λ e. (refl, refl)
-      ]
+-- there is room in the heap that news goes to
+pub room-for : (w : handler.News Addr) (k : Kind) (alive deceased : ℕ) → findsFull w alive deceased ≡ false → RoomFor k w (ofKind k alive deceased)
+room-for handler.Silent k a d f = tt
+room-for (handler.Emits kind.Alive e) kind.Alive a d f = λ _. leb-false 128 a f
+room-for (handler.Emits kind.Alive e) kind.Deceased a d f = λ s. let z : _≡_ {A = ℕ} 0 1 = ap one s in absurd (omega arith)
+room-for (handler.Emits kind.Deceased e) kind.Alive a d f = λ s. let z : _≡_ {A = ℕ} 0 1 = ap one s in absurd (omega arith)
+room-for (handler.Emits kind.Deceased e) kind.Deceased a d f = λ _. leb-false 128 d f
 
 -- a verdict that was carried out, and what the rows hold then
-pub record Acted (x : Answer (M.Out Addr)) (w : handler.News ℕ) (m : Node) (draws : List ℕ) (next : ℕ) : Type 0 where
+pub record Acted (x : Answer (M.Out Addr)) (w : handler.News Addr) (m : Node) (draws : List ℕ) (next : ℕ) : Type 0 where
   pub out : M.Out Addr
   pub rest : List ℕ
   pub is : x ≡ done out rest
@@ -65,11 +61,11 @@ pub record Acted (x : Answer (M.Out Addr)) (w : handler.News ℕ) (m : Node) (dr
   pub left : drop next draws ≡ rest
   pub within : next ≤ length draws
 
-module _ (n : Node) (r : Ready n) (v : handler.Verdict ℕ) (draws : List ℕ) (used : ℕ) (h : used ≤ length draws) (k : Kept) (is : k ≡ listAfterOf (n .members) v draws used) where
+module _ (n : Node) (r : Ready n) (v : handler.Verdict Addr) (draws : List ℕ) (used : ℕ) (h : used ≤ length draws) (k : Kept) (is : k ≡ listAfterOf (n .members) v draws used) where
   abbrev x : Answer (list.Members Addr)
   x = handler.listAfter here v (viewMembers (n .members)) (drop used draws)
 
-  abbrev news : handler.News ℕ
+  abbrev news : handler.News Addr
   news = handler.newsOf here v (n .own)
 
   abbrev whole : Answer (M.Out Addr)
@@ -99,55 +95,67 @@ module _ (n : Node) (r : Ready n) (v : handler.Verdict ℕ) (draws : List ℕ) (
     then-tells : whole ≡ telling (listed .gave) (listed .rest)
     then-tells = list-first (done (listed .gave) (listed .rest)) (listed .is)
 
-    module _ (p : Pushed) (is-told : p ≡ toldOf (n .disseminator) news) where
-      -- the node, part by part
-      node-is : (l : list.Members Addr) (m : M.Disseminator ℕ) → k .members ≡ packMembers l → p .disseminator ≡ packDisseminator m
-          → withDisseminator (withMembers n (k .members)) (p .disseminator) ≡ packNode (M.withDisseminator (M.withMembers (viewNode n) l) m)
-      unfolding packNode viewNode
-      node-is l m e f =
-          let t = sym (ap (λ (y : Node). y .timers) (ready-is n r)) in
-          λ i. record { settings = n .settings; own = n .own; members = e i; disseminator = f i; timers = t i }
+    -- the heaps after the news, in the rules' words
+    abbrev afterNews : handler.News Addr → M.Disseminator Addr
+    afterNews handler.Silent = viewDisseminator (n .disseminator)
+    afterNews (handler.Emits j e) =
+        let d = viewDisseminator (n .disseminator) in
+        M.withHeap j (push W.unused W.sendsOf (M.heapOf j d) (entryOf here (record { event = e }))) d
 
-      told-full : (w : handler.News ℕ) → p ≡ toldOf (n .disseminator) w → p .full ≡ true → (s : M.Node Addr) → s .disseminator ≡ viewDisseminator (n .disseminator) → (rest : List ℕ) → handler.tell here w s rest ≡ refused HeapFull
-      unfolding M.emit M.pushed
-      told-full handler.Silent e f s q rest = let z : _≡_ {A = ℕ} 0 1 = ap one (ap (λ (y : Pushed). y .full) (sym e) ∙ f) in absurd (omega arith)
-      told-full (handler.Emits j g) e f s q rest =
-          ap (λ (y : M.Disseminator ℕ). andThen (M.pushed here j (record { event = g }) y rest) (λ d rest₂. done (record { node = M.withDisseminator s d; said = record { event = g } ∷ [] }) rest₂)) q
-          ∙ ap (λ (y : Answer (M.Disseminator ℕ)). andThen y (λ d rest₂. done (record { node = M.withDisseminator s d; said = record { event = g } ∷ [] }) rest₂))
-          (push-full (n .disseminator) (leb 128 (length (M.heapOf j (viewDisseminator (n .disseminator))))) _ rest (ap (λ (y : Pushed). y .full) (sym e) ∙ f))
+    heaps-are : (w : handler.News Addr) → record { alive = toldTo kind.Alive w (n .disseminator .alive); deceased = toldTo kind.Deceased w (n .disseminator .deceased) } ≡ packDisseminator (afterNews w)
+    heaps-are handler.Silent = sym (both-back (n .disseminator) (r .heaps))
+    heaps-are (handler.Emits kind.Alive e) =
+        λ i. record { alive = emitted (n .disseminator .alive) (record { event = e }); deceased = sym (pack-view (n .disseminator .deceased) (r .heaps .deceased)) i }
+    heaps-are (handler.Emits kind.Deceased e) =
+        λ i. record { alive = sym (pack-view (n .disseminator .alive) (r .heaps .alive)) i; deceased = emitted (n .disseminator .deceased) (record { event = e }) }
 
-      -- the heap was full
-      pub act-full : p .full ≡ true → whole ≡ refused HeapFull
-      unfolding viewNode
-      act-full f = then-tells ∙ told-full news is-told f _ refl (listed .rest)
+    -- the rules count the entries of the list that a heap holds, the code has their number
+    held-is : (j : Kind) → length (M.heapOf j (viewDisseminator (n .disseminator))) ≡ ofKind j (n .disseminator .alive .len) (n .disseminator .deceased .len)
+    held-is kind.Alive = view-length (n .disseminator .alive) (r .heaps .alive)
+    held-is kind.Deceased = view-length (n .disseminator .deceased) (r .heaps .deceased)
 
-      told-done : (w : handler.News ℕ) → p ≡ toldOf (n .disseminator) w → p .full ≡ false → whole ≡ handler.tell here w (M.withMembers (viewNode n) (listed .gave)) (listed .rest)
-          → Acted whole w (withDisseminator (withMembers n (k .members)) (p .disseminator)) draws (used + more)
-      unfolding M.quiet M.emit M.pushed viewNode
-      told-done handler.Silent e f tells =
-          record {
-            out = record { node = M.withMembers (viewNode n) (listed .gave); said = [] };
-            rest = listed .rest;
-            is = tells;
-            node = node-is (listed .gave) (viewDisseminator (n .disseminator)) kept (ap (λ (y : Pushed). y .disseminator) e ∙ sym (both-back (n .disseminator) (r .heaps)));
-            said = refl;
-            left = listed .next;
-            within = listed .within;
-          }
-      told-done (handler.Emits j g) e f tells =
-          let d = viewDisseminator (n .disseminator) in
-          let after = M.withHeap j (push W.unused W.sendsOf (M.heapOf j d) (entryOf here (record { event = g }))) d in
-          let b = push-done (n .disseminator) (leb 128 (length (M.heapOf j d))) after (listed .rest) (ap (λ (y : Pushed). y .full) (sym e) ∙ f) in
-          record {
-            out = record { node = M.withDisseminator (M.withMembers (viewNode n) (listed .gave)) after; said = record { event = g } ∷ [] };
-            rest = listed .rest;
-            is = tells ∙ ap (λ (y : Answer (M.Disseminator ℕ)). andThen y (λ d rest. done (record { node = M.withDisseminator (M.withMembers (viewNode n) (listed .gave)) d; said = record { event = g } ∷ [] }) rest)) (b .0);
-            node = node-is (listed .gave) after kept (ap (λ (y : Pushed). y .disseminator) e ∙ b .1);
-            said = refl;
-            left = listed .next;
-            within = listed .within;
-          }
+    abbrev full : handler.News Addr → Bool
+    full w = findsFull w (n .disseminator .alive .len) (n .disseminator .deceased .len)
 
-      -- all is carried out
-      pub act-done : p .full ≡ false → Acted whole news (withDisseminator (withMembers n (k .members)) (p .disseminator)) draws (used + more)
-      act-done f = told-done news is-told f then-tells
+    -- news is told by what is asked of the heap's length
+    tells : (w : handler.News Addr) (s : M.Node Addr) → s .disseminator ≡ viewDisseminator (n .disseminator) → (rest : List ℕ)
+        → handler.tell here w s rest ≡ when (full w) (refused HeapFull) (done (record { node = M.withDisseminator s (afterNews w); said = saidBy w }) rest)
+    unfolding M.emit M.pushed M.quiet when
+    tells handler.Silent s q rest = λ i. done (record { node = M.withDisseminator s (q i); said = [] }) rest
+    tells (handler.Emits j e) s q rest =
+        let g : W.Gossip Addr = record { event = e } in
+        let said : M.Disseminator Addr → List ℕ → Answer (M.Out Addr) = λ d rest₂. done (record { node = M.withDisseminator s d; said = g ∷ [] }) rest₂ in
+        ap (λ (y : M.Disseminator Addr). andThen (M.pushed here j g y rest) said) q
+        ∙ ap (λ (h : ℕ). andThen (when (leb 128 h) (refused HeapFull) (done (afterNews (handler.Emits j e)) rest)) said) (held-is j)
+        ∙ when-then (full (handler.Emits j e)) (afterNews (handler.Emits j e)) rest said
+
+    -- the heap was full
+    pub act-full : full news ≡ true → whole ≡ refused HeapFull
+    unfolding viewNode when
+    act-full f =
+        then-tells
+        ∙ tells news (M.withMembers (viewNode n) (listed .gave)) refl (listed .rest)
+        ∙ ap (λ (u : Bool). when u (refused HeapFull) (done (record { node = M.withDisseminator (M.withMembers (viewNode n) (listed .gave)) (afterNews news); said = saidBy news }) (listed .rest))) f
+
+    -- all is carried out
+    pub act-done : (a d : Heap) → a ≡ toldTo kind.Alive news (n .disseminator .alive) → d ≡ toldTo kind.Deceased news (n .disseminator .deceased) → full news ≡ false
+        → Acted whole news (withDisseminator (withMembers n (k .members)) (record { alive = a; deceased = d })) draws (used + more)
+    unfolding packNode viewNode when
+    act-done a d is-a is-d f =
+        let s = M.withMembers (viewNode n) (listed .gave) in
+        let t = sym (ap (λ (y : Node). y .timers) (ready-is n r)) in
+        record {
+          out = record { node = M.withDisseminator s (afterNews news); said = saidBy news };
+          rest = listed .rest;
+          is =
+              then-tells
+              ∙ tells news s refl (listed .rest)
+              ∙ ap (λ (u : Bool). when u (refused HeapFull) (done (record { node = M.withDisseminator s (afterNews news); said = saidBy news }) (listed .rest))) f;
+          node = λ i. record { settings = n .settings; own = n .own; members = kept i; disseminator = (heaps a d is-a is-d) i; timers = t i };
+          said = refl;
+          left = listed .next;
+          within = listed .within;
+        }
+      where
+        heaps : (a d : Heap) → a ≡ toldTo kind.Alive news (n .disseminator .alive) → d ≡ toldTo kind.Deceased news (n .disseminator .deceased) → record { alive = a; deceased = d } ≡ packDisseminator (afterNews news)
+        heaps a d is-a is-d = (λ i. record { alive = is-a i; deceased = is-d i }) ∙ heaps-are news

@@ -17,7 +17,7 @@ use Rattle.address.specs.Here.{Addr, here, here-lawful}
 use Rattle.model.specs.Words as W
 use Rattle.model.specs.Limit.{limitOf}
 use Rattle.model.specs.Choose.{termsOf}
-use Rattle.disseminate.specs.Fit.{at-most-58}
+use Rattle.disseminate.specs.Fit.{most-chosen, few-chosen}
 use Rattle.model.specs.Node as M
 use Rattle.model.specs.Handler as handler
 use Rattle.model.specs.Sound.{validGossip}
@@ -37,10 +37,10 @@ Said k o = Good here (o .node) × (length (o .said) ≤ k)
 abbrev Within : M.Effect Addr → Type 0
 Within e = (length (calls.packed (e .messages)) ≤ 64) × (length (e .events) ≤ 65)
 
-spread-few : (s : M.Node Addr) → Good here s → length (M.spread here s .gossip) ≤ 58
+spread-few : (s : M.Node Addr) → Good here s → length (M.spread here s .gossip) ≤ most-chosen
 unfolding M.spread termsOf
 spread-few s g =
-    at-most-58 (termsOf (s .settings .«max_selected») (s .settings .«max_size») (limitOf (length (s .members .table)) (s .settings .«send_constant»))) (s .disseminator .alive) (s .disseminator .deceased) (ranges (s .settings) (g .settings) .most-size) (g .heaps kind.Alive) (g .heaps kind.Deceased)
+    few-chosen (termsOf (s .settings .«max_selected») (s .settings .«max_size») (limitOf (length (s .members .table)) (s .settings .«send_constant»))) (s .disseminator .alive) (s .disseminator .deceased) (ranges (s .settings) (g .settings) .most-size) (g .heaps kind.Alive) (g .heaps kind.Deceased)
 
 answered-within : (target : Addr) (a : W.Action Addr) (o : M.Out Addr) → Said 65 o → Within (handler.answerTo here target a o)
 unfolding handler.answerTo

@@ -68,7 +68,7 @@ quiet-more : (f : Rule) (m : M.Node Addr) (ds : List ℕ) → M.andMore (M.quiet
 unfolding M.andMore M.quiet
 quiet-more f m ds = prepend-nil (f m ds)
 
-module _ (sender : Option ℕ) where
+module _ (sender : Option Addr) where
   -- the rule whose turn it is
   abbrev pub turn : List (W.Gossip Addr) → ℕ → Rule
   turn gs i s ds = handler.act here (verdictAt (s .own) (s .members .table) (s .disseminator .deceased) gs sender i) s ds
@@ -79,7 +79,7 @@ module _ (sender : Option ℕ) where
   ahead [] (suc i) m ds = M.quiet m ds
   ahead (g ∷ gs) (suc i) m ds = ahead gs i m ds
 
-  sender-turn : (o : Option ℕ) (m : M.Node Addr) (ds : List ℕ) → o ≡ sender → senderRule o m ds ≡ turn [] 0 m ds
+  sender-turn : (o : Option Addr) (m : M.Node Addr) (ds : List ℕ) → o ≡ sender → senderRule o m ds ≡ turn [] 0 m ds
   unfolding verdictAt handler.admit handler.act handler.listAfter handler.newsOf
   sender-turn none m ds e = rw (sym e)
   sender-turn (some a) m ds e = rw (sym e)
@@ -97,7 +97,7 @@ module _ (sender : Option ℕ) where
   ahead-over (g ∷ gs) (suc i) h m ds = ahead-over gs i (le-of-suc-le-suc h) m ds
 
 -- each turn keeps a node good
-pub turn-keeps : (sender : Option ℕ) (gs : List (W.Gossip Addr)) (i : ℕ) (s : M.Node Addr) (ds : List ℕ) → Good here s → every (validGossip here) gs ≡ true → calls.validOption here sender ≡ true
+pub turn-keeps : (sender : Option Addr) (gs : List (W.Gossip Addr)) (i : ℕ) (s : M.Node Addr) (ds : List ℕ) → Good here s → every (validGossip here) gs ≡ true → calls.validOption here sender ≡ true
     → After (λ o. Keeps here s (o .node)) (turn sender gs i s ds)
 unfolding verdictAt handler.item handler.admit
 turn-keeps none [] i s ds g v w = act-keeps here here-lawful handler.Skip s ds g tt
@@ -119,20 +119,20 @@ module _ (own : Addr) (t : List (W.Member Addr)) (dead : List (W.Entry Addr)) wh
   judged-by (W.Suspected f a n) = refl
   judged-by (W.Deceased f a n) = refl
 
-  at-record : (gs : List (W.Gossip Addr)) (sender : Option ℕ) (i : ℕ) (d : W.Gossip Addr) → i < length gs → handler.judge here own t (deathFor (getD gs i d .event) dead) (getD gs i d .event) ≡ verdictAt own t dead gs sender i
+  at-record : (gs : List (W.Gossip Addr)) (sender : Option Addr) (i : ℕ) (d : W.Gossip Addr) → i < length gs → handler.judge here own t (deathFor (getD gs i d .event) dead) (getD gs i d .event) ≡ verdictAt own t dead gs sender i
   unfolding verdictAt
   at-record [] sender i d h = absurd (not-suc-le-zero h)
   at-record (g ∷ gs) sender zero d h = judged-by (g .event)
   at-record (g ∷ gs) sender (suc i) d h = at-record gs sender i d (le-of-suc-le-suc h)
 
-  at-sender : (gs : List (W.Gossip Addr)) (sender : Option ℕ) (i : ℕ) → length gs ≤ i → verdictAt own t dead [] sender 0 ≡ verdictAt own t dead gs sender i
+  at-sender : (gs : List (W.Gossip Addr)) (sender : Option Addr) (i : ℕ) → length gs ≤ i → verdictAt own t dead [] sender 0 ≡ verdictAt own t dead gs sender i
   unfolding verdictAt
   at-sender [] none i h = refl
   at-sender [] (some a) i h = refl
   at-sender (g ∷ gs) sender zero h = absurd (not-suc-le-zero h)
   at-sender (g ∷ gs) sender (suc i) h = at-sender gs sender i (le-of-suc-le-suc h)
 
-  module _ (rows : List Gossip) (given : ℕ) (h : Heeded rows given) (sender : Option ℕ) (i : ℕ) where
+  module _ (rows : List Gossip) (given : ℕ) (h : Heeded rows given) (sender : Option Addr) (i : ℕ) where
     pub record-judged : i < given → (let e = toEvent (getD rows i noGossip .event) in handler.judge here own t (deathFor e dead) e) ≡ verdictAt own t dead (recordsOf rows given) sender i
     record-judged k =
         ap (λ (g : W.Gossip Addr). handler.judge here own t (deathFor (g .event) dead) (g .event)) (sym (List·getD-map toGossip (take given rows) i noGossip ∙ ap toGossip (getD-take given rows i noGossip k)))
@@ -147,7 +147,7 @@ saidIn r = viewRow toGossip fromGossip (r .events) (r .count)
 
 -- news is noted behind the others
 module _ (r : Report) (row : PackedRow 65 noGossip (r .events) (r .count)) (room : r .count < 65) where
-  note-more : (w : handler.News ℕ) → PackedRow 65 noGossip (noted r w .events) (noted r w .count) × (saidIn (noted r w) ≡ saidIn r ++ saidBy w)
+  note-more : (w : handler.News Addr) → PackedRow 65 noGossip (noted r w .events) (noted r w .count) × (saidIn (noted r w) ≡ saidIn r ++ saidBy w)
   note-more handler.Silent = (row, sym (append-nil (saidIn r)))
   note-more (handler.Emits k e) =
       let g : Gossip = record { event = fromEvent e } in
@@ -160,7 +160,7 @@ module _ (r : Report) (row : PackedRow 65 noGossip (r .events) (r .count)) (room
         rw (p, sym n) (v ∙ ap (λ (y : W.Gossip Addr). saidIn r ++ (y ∷ [])) (to-from-gossip (record { event = e }))),
       )
 
-pub noted-few : (r : Report) (w : handler.News ℕ) → noted r w .count ≤ r .count + 1
+pub noted-few : (r : Report) (w : handler.News Addr) → noted r w .count ≤ r .count + 1
 noted-few r handler.Silent = omega arith
 noted-few r (handler.Emits k e) = omega arith
 
@@ -192,7 +192,7 @@ module _ (all : Answer (M.Out Addr)) (draws : List ℕ) where
     sofar-refused u e = s .whole ∙ ap (λ (x : Answer (M.Out Addr)). prepend (saidIn r) (M.andMore x left)) e
 
     -- the rule was kept
-    pub sofar-more : (w : handler.News ℕ) (m : Node) (next : ℕ) → After (λ o. Keeps here (viewNode n) (o .node)) (rule (viewNode n) (drop used draws)) → r .count < 65
+    pub sofar-more : (w : handler.News Addr) (m : Node) (next : ℕ) → After (λ o. Keeps here (viewNode n) (o .node)) (rule (viewNode n) (drop used draws)) → r .count < 65
         → Acted (rule (viewNode n) (drop used draws)) w m draws next → Sofar all left draws next m (noted r w)
     unfolding M.andMore
     sofar-more w m next keeps room a =
@@ -222,7 +222,7 @@ module _ (all : Answer (M.Out Addr)) (draws : List ℕ) where
       let us : used ≡ length draws - length (drop used draws) = omega (arith, length-drop used draws, s .within) in
       rw (s .whole) (λ i. record { node = sym (ready-is n (s .ready)) i; events = ev i; reported = rp i; drew = Used (us i) })
 
-module _ (sender : Option ℕ) (gs : List (W.Gossip Addr)) (all : Answer (M.Out Addr)) (draws : List ℕ) (used i : ℕ) (n : Node) (r : Report) (s : Sofar all (ahead sender gs i) draws used n r) where
+module _ (sender : Option Addr) (gs : List (W.Gossip Addr)) (all : Answer (M.Out Addr)) (draws : List ℕ) (used i : ℕ) (n : Node) (r : Report) (s : Sofar all (ahead sender gs i) draws used n r) where
   pub sofar-next : i ≤ length gs → Sofar all (λ m ds. M.andMore (turn sender gs i m ds) (ahead sender gs (i + 1))) draws used n r
   sofar-next k =
       record {

@@ -1,14 +1,16 @@
 -- How the handler's values carry the model's answers.
 -- Assumes nothing.
 use mathlib.Core.Path.{_≡_}
-use mathlib.Core.Bool.{true, false}
+use mathlib.Core.Bool.{Bool, true, false}
 use mathlib.Core.List.{List, [], _∷_, map}
 use mathlib.Core.Option.{Option, none, some}
-use Prim.Native.Nat.{ℕ, zero, suc, _+_, _-_, _≤_}
+use Prim.Native.Nat.{ℕ, zero, suc, _+_, _-_, _≤_, _<_}
 use lib.ListN.{length, take, set, replicate}
+use lib.Dec.{leb}
+use Rattle.model.specs.declared.Kind.{Kind}
 use Rattle.model.specs.declared.Refusal.{Refusal}
 use Rattle.model.specs.declared.Drew.the-variants.{Used, Refused}
-use Rattle.model.specs.Rows.{padTo, every}
+use Rattle.model.specs.Rows.{padTo, every, pick}
 use Rattle.model.specs.Answers.{Answer, done, refused}
 use Rattle.address.specs.Here.{Addr, here}
 use Rattle.model.specs.Words as W
@@ -18,9 +20,8 @@ use Rattle.model.specs.Node as M
 use Rattle.model.specs.Handler as handler
 use Rattle.types.specs.declared.Gossip.{Gossip}
 use Rattle.types.specs.Views.{toGossip, fromEvent, fromGossip, noGossip}
-use Rattle.disseminate.specs.declared.Disseminator.{Disseminator}
-use Rattle.disseminate.specs.declared.Pushed.{Pushed}
-use Rattle.disseminate.specs.Views.{heldOr, viewDisseminator}
+use Rattle.heap.specs.declared.Heap.{Heap}
+use Rattle.disseminate.specs.Views.{sameKind, ofKind, emitted}
 use Rattle.node.specs.declared.Node.{Node}
 use Rattle.node.specs.Views.{packNode}
 use Rattle.message.specs.declared.gossip.Heard.{Heard}
@@ -40,12 +41,12 @@ abbrev pub Rule : Type 0
 Rule = M.Node Addr → List ℕ → Answer (M.Out Addr)
 
 -- the rule of a sender that is to come in, if there is one
-abbrev pub senderRule : Option ℕ → Rule
+abbrev pub senderRule : Option Addr → Rule
 senderRule none m ds = M.quiet m ds
 senderRule (some a) m ds = handler.admit here a m ds
 
 -- the verdict whose turn it is: on the records in their order, and then on the sender
-unfoldable pub verdictAt : ℕ → List (W.Member Addr) → List (W.Entry Addr) → List (W.Gossip Addr) → Option ℕ → ℕ → handler.Verdict ℕ
+unfoldable pub verdictAt : Addr → List (W.Member Addr) → List (W.Entry Addr) → List (W.Gossip Addr) → Option Addr → ℕ → handler.Verdict Addr
 verdictAt own t dead [] none i = handler.Skip
 verdictAt own t dead [] (some a) i = handler.judgeSender here t (death here a dead) a
 verdictAt own t dead (g ∷ gs) sender zero = handler.judge here own t (death here (W.partsOf here (g .event) .subject) dead) (g .event)
@@ -59,17 +60,27 @@ deathFor (W.Recovered f a n) h = none
 deathFor (W.Suspected f a n) h = none
 deathFor (W.Deceased f a n) h = none
 
--- news that goes to its heap, or finds it full
-abbrev pub toldOf : Disseminator → handler.News ℕ → Pushed
-toldOf d handler.Silent = record { disseminator = d; full = false }
-toldOf d (handler.Emits k e) = heldOr d (M.pushed here k (record { event = e }) (viewDisseminator d) [])
+-- is the heap full that news goes to, by how many entries both hold?
+abbrev pub findsFull : handler.News Addr → ℕ → ℕ → Bool
+findsFull handler.Silent alive deceased = false
+findsFull (handler.Emits k e) alive deceased = leb 128 (ofKind k alive deceased)
+
+-- a heap of so many entries has room for what goes to it
+abbrev pub RoomFor : Kind → handler.News Addr → ℕ → Type 0
+RoomFor k handler.Silent held = Unit {0}
+RoomFor k (handler.Emits j e) held = sameKind j k ≡ true → held < 128
+
+-- the heap of a kind with the news that goes to it, or as it came
+abbrev pub toldTo : Kind → handler.News Addr → Heap → Heap
+toldTo k handler.Silent h = h
+toldTo k (handler.Emits j e) h = pick (sameKind j k) (emitted h (record { event = e })) h
 
 -- what is reported of it, and behind the other events
-abbrev pub saidBy : handler.News ℕ → List (W.Gossip Addr)
+abbrev pub saidBy : handler.News Addr → List (W.Gossip Addr)
 saidBy handler.Silent = []
 saidBy (handler.Emits k e) = record { event = e } ∷ []
 
-abbrev pub noted : Report → handler.News ℕ → Report
+abbrev pub noted : Report → handler.News Addr → Report
 noted r handler.Silent = r
 noted r (handler.Emits k e) = record { events = set (r .events) (r .count) (record { event = fromEvent e }); count = r .count + 1 }
 

@@ -2,10 +2,10 @@
 use address::Address;
 use disseminate::Disseminator;
 use disseminate::Found;
-use disseminate::Pushed;
 use heap::Heap;
 use member::Members;
 use model::Drew;
+use model::Kind;
 use model::Refusal;
 use node::Node;
 use rules::News;
@@ -24,11 +24,11 @@ ghost use Rattle.model.specs.Calls as calls;
 ghost use Rattle.types.specs.Views.{toEvent, toOptional, noGossip};
 ghost use Rattle.heap.specs.Views.{heapView, Packed};
 ghost use Rattle.member.specs.Views.{viewMembers, Held};
-ghost use Rattle.disseminate.specs.Views.{fromFound, PackedHeaps};
+ghost use Rattle.disseminate.specs.Views.{fromFound};
 ghost use Rattle.node.specs.Views.{viewNode};
 ghost use Rattle.node.specs.Rows.{Ready};
 ghost use Rattle.rules.specs.Views.{fromVerdict, toNews};
-ghost use Rattle.message.specs.Views.{recordsOf, Heeded, senderRule, verdictAt, deathFor, toldOf, noted, refusedHeard, heardOf};
+ghost use Rattle.message.specs.Views.{recordsOf, Heeded, senderRule, verdictAt, deathFor, findsFull, RoomFor, toldTo, noted, refusedHeard, heardOf};
 
 // What a message brings: its records, and the sender if it is to come in.
 pub struct Lent {
@@ -96,17 +96,31 @@ fn verdict_at(members: Members, own: Address, deceased: Heap, lent: Lent, i: usi
     }
 }
 
-// News goes to its heap, or finds it full.
-fn tell(disseminator: Disseminator, news: News) -> Pushed
-    requires { ⌜ PackedHeaps disseminator ⌝ }
-    ensures { λ r. ⌜ r ≡ toldOf disseminator (toNews news) ⌝ }
+// Is the heap full that news goes to? `alive` and `deceased` are how many entries they hold.
+fn finds_full(news: News, alive: usize, deceased: usize) -> bool
+    ensures { λ r. ⌜ r ≡ findsFull (toNews news) alive deceased ⌝ }
 {
     match news {
-        News::Silent => Pushed {
-            disseminator,
-            full: false,
+        News::Silent => false,
+        News::Emits { kind, event: _ } => Heap::CAPACITY
+            <= disseminate::of_kind(kind, alive, deceased),
+    }
+}
+
+// The heap of a kind with the news that goes to it, or as it came. One heap at a time, since both would be copied where one changes.
+fn tell(heap: Heap, kind: Kind, news: News) -> Heap
+    requires { ⌜ Packed heap × RoomFor kind (toNews news) (heap .len) ⌝ }
+    ensures { λ r. ⌜ r ≡ toldTo kind (toNews news) heap ⌝ }
+{
+    match news {
+        News::Silent => heap,
+        News::Emits { kind: to, event } => {
+            if disseminate::same_kind(to, kind) {
+                disseminate::emit(heap, Gossip { event })
+            } else {
+                heap
+            }
         },
-        News::Emits { kind, event } => disseminator.push(kind, Gossip { event }),
     }
 }
 
@@ -114,6 +128,16 @@ fn tell(disseminator: Disseminator, news: News) -> Pushed
 pub struct Report {
     pub events: [Gossip; Heard::EVENTS],
     pub count: usize,
+}
+
+// No news yet.
+fn no_report() -> Report
+    ensures { λ r. ⌜ r ≡ record { events = replicate 65 noGossip; count = 0 } ⌝ }
+{
+    Report {
+        events: no_events(),
+        count: 0,
+    }
 }
 
 // News stands behind the other events.
@@ -153,15 +177,14 @@ pub fn handle_gossip(mut node: Node, lent: Lent, draws: &[u64]) -> Heard
     ensures { λ r. ⌜ r ≡ heardOf node (now (draws .entry)) (M.andMore (handler.gossip here (recordsOf (lent .rows) (lent .given)) (viewNode node) (now (draws .entry))) (senderRule (toOptional (lent .sender)))) ⌝ }
 {
     let mut members = node.members;
-    let mut disseminator = node.disseminator;
-    let mut report = Report {
-        events: no_events(),
-        count: 0,
-    };
+    let spread = node.disseminator;
+    let mut alive = spread.alive;
+    let mut deceased = spread.deceased;
+    let mut report = no_report();
     let mut used = 0;
     let mut i = 0;
     while i <= lent.given {
-        let verdict = verdict_at(members, node.own, disseminator.deceased, lent, i);
+        let verdict = verdict_at(members, node.own, deceased, lent, i);
         let kept = rules::list_after(members, verdict, draws, used);
         let drew = kept.drew;
         match drew {
@@ -171,17 +194,18 @@ pub fn handle_gossip(mut node: Node, lent: Lent, draws: &[u64]) -> Heard
             }
         }
         let news = rules::news_of(verdict, node.own);
-        let pushed = tell(disseminator, news);
-        if pushed.full {
+        if finds_full(news, alive.len, deceased.len) {
             return refused(node, Refusal::HeapFull);
         }
         members = kept.members;
-        disseminator = pushed.disseminator;
+        alive = tell(alive, Kind::Alive, news);
+        deceased = tell(deceased, Kind::Deceased, news);
         report = note(report, news);
         i += 1;
     }
     node.members = members;
-    node.disseminator = disseminator;
+    let after = Disseminator { alive, deceased };
+    node.disseminator = after;
     let events = report.events;
     Heard {
         node,

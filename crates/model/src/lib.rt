@@ -56,6 +56,23 @@ pub struct Settings {
     pub max_size: usize,
 }
 
+// The ranges of the settings: waits end below, the others at the number itself.
+impl Settings {
+    pub const WAIT_END: u32 = 2147483648;
+
+    pub const MOST_GROUP: usize = 4;
+
+    pub const MOST_CONSTANT: usize = 8;
+
+    pub const LEAST_SELECTED: usize = 1;
+
+    pub const MOST_SELECTED: usize = 64;
+
+    pub const LEAST_SIZE: usize = 59;
+
+    pub const GREATEST_SIZE: usize = 1400;
+}
+
 // A refusal's number in the table of refusals.
 pub fn refusal_number(refusal: Refusal) -> u8
     ensures { λ r. ⌜ r ≡ numberOf refusal ⌝ }

@@ -1,5 +1,5 @@
-pub mod Ranges
 pub mod Views
 pub mod Rows
 pub mod Parts
 pub mod Ends
+pub mod Emitting

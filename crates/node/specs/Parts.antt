@@ -4,7 +4,6 @@ use mathlib.Core.Path.{_≡_, refl, ap, sym, _∙_}
 use mathlib.Core.List.{List, [], _∷_}
 use Prim.Native.Nat.{ℕ}
 use Rattle.address.specs.Here.{Addr}
-use Rattle.model.specs.Answers.{Answer, done, refused, andThen}
 use Rattle.model.specs.Words as W
 use Rattle.model.specs.Choose as choosing
 use Rattle.model.specs.Members as list
@@ -17,12 +16,11 @@ use Rattle.timers.specs.declared.Timers.{Timers}
 use Rattle.timers.specs.Views.{toTimer, fromTimer, noTimer, packTimers, timersView}
 use Rattle.laws.specs.Packing as rows
 use Rattle.disseminate.specs.declared.Disseminator.{Disseminator}
-use Rattle.disseminate.specs.declared.Pushed.{Pushed}
 use Rattle.disseminate.specs.declared.Choice.{Choice}
-use Rattle.disseminate.specs.Views.{heldOr, packChoice, viewDisseminator, packDisseminator, both-back}
+use Rattle.disseminate.specs.Views.{packChoice, viewDisseminator, packDisseminator, both-back}
 use Rattle.node.specs.declared.Node.{Node}
 use Rattle.node.specs.declared.parts.Spread.{Spread}
-use Rattle.node.specs.Views.{viewNode, packNode, withMembers, withDisseminator, withTimers, Emitted, emittedOf, spreadOf}
+use Rattle.node.specs.Views.{viewNode, packNode, withMembers, withDisseminator, withTimers, spreadOf}
 use Rattle.node.specs.Rows.{Ready}
 
 module _ (n : Node) (r : Ready n) where
@@ -61,7 +59,7 @@ module _ (n : Node) (r : Ready n) where
         timers = sym timers-back i;
       }
 
-  pub part-disseminator : (d : M.Disseminator ℕ) (x : Disseminator) → x ≡ packDisseminator d → withDisseminator n x ≡ packNode (M.withDisseminator (viewNode n) d)
+  pub part-disseminator : (d : M.Disseminator Addr) (x : Disseminator) → x ≡ packDisseminator d → withDisseminator n x ≡ packNode (M.withDisseminator (viewNode n) d)
   unfolding packNode viewNode
   part-disseminator d x e =
       λ i. record {
@@ -82,15 +80,6 @@ module _ (n : Node) (r : Ready n) where
         disseminator = sym disseminator-back i;
         timers = e i;
       }
-
-  -- an event was pushed to its heap, or that heap was full and the node is as it came
-  pub emitted : (g : W.Gossip Addr) (x : Answer (M.Disseminator ℕ)) (p : Pushed) (m : Node) → p ≡ heldOr (n .disseminator) x → m ≡ withDisseminator n (p .disseminator)
-      → _≡_ {A = Emitted} (record { node = m; full = p .full })
-      (emittedOf n (andThen x λ d rest. done (record { node = M.withDisseminator (viewNode n) d; said = g ∷ [] }) rest))
-  emitted g (refused u) p m e f = λ i. record { node = (f ∙ ap (λ (q : Pushed). withDisseminator n (q .disseminator)) e) i; full = e i .full }
-  emitted g (done d rest) p m e f =
-      let q = f ∙ ap (λ (q : Pushed). withDisseminator n (q .disseminator)) e ∙ part-disseminator d (packDisseminator d) refl in
-      λ i. record { node = q i; full = e i .full }
 
   -- gossip was chosen
   pub spread-is : (c : choosing.Choice Addr) (k : Choice) (m : Node) → k ≡ packChoice c → m ≡ withDisseminator n (record { alive = k .alive; deceased = k .deceased })

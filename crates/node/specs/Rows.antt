@@ -62,7 +62,7 @@ unstored-stored n =
     λ i. record {
       settings = n .settings;
       own = n .own;
-      members = record { table = t i; order = n .members .order; len = n .members .len; position = n .members .position };
+      members = record { table = t i; len = n .members .len; order = n .members .order };
       disseminator = record { alive = record { entries = a i; len = n .disseminator .alive .len }; deceased = record { entries = d i; len = n .disseminator .deceased .len } };
       timers = record { entries = m i; len = n .timers .len };
     }
@@ -78,7 +78,7 @@ unstored-pack s =
     λ i. record {
       settings = s .settings;
       own = s .own;
-      members = record { table = t i; order = padTo 64 (here .blank) (s .members .order); len = length (s .members .table); position = s .members .position };
+      members = record { table = t i; len = length (s .members .table); order = record { row = padTo 64 (here .blank) (s .members .order); position = s .members .position } };
       disseminator = record { alive = record { entries = a i; len = length (s .disseminator .alive) }; deceased = record { entries = d i; len = length (s .disseminator .deceased) } };
       timers = record { entries = m i; len = length (s .timers) };
     }
@@ -94,7 +94,7 @@ loaded-view n =
     λ i. record {
       settings = n .settings;
       own = n .own;
-      members = record { table = t i; order = take (n .members .len) (n .members .order); position = n .members .position };
+      members = record { table = t i; order = take (n .members .len) (n .members .order .row); position = n .members .order .position };
       disseminator = record { alive = a i; deceased = d i };
       timers = m i;
     }
@@ -128,7 +128,7 @@ ready-pack s g =
     }
 
 -- arrays have their lengths, so the rows are full
-pub full-rows : (n : Node) → length (n .members .table) ≡ 64 → length (n .members .order) ≡ 64 → length (n .disseminator .alive .entries) ≡ 128 → length (n .disseminator .deceased .entries) ≡ 128 → length (n .timers .entries) ≡ 16
+pub full-rows : (n : Node) → length (n .members .table) ≡ 64 → length (n .members .order .row) ≡ 64 → length (n .disseminator .alive .entries) ≡ 128 → length (n .disseminator .deceased .entries) ≡ 128 → length (n .timers .entries) ≡ 16
     → FullRows (storedView n)
 unfolding storedView
 full-rows n a b c d e =

@@ -8,7 +8,6 @@ use Rattle.model.specs.declared.Reply.the-variants.{Done, Refused}
 use Rattle.model.specs.declared.Settings.{Settings}
 use Rattle.model.specs.Rows.{padTo}
 use Rattle.address.specs.Here.{Addr, here}
-use Rattle.model.specs.Answers as A
 use Rattle.model.specs.Words as W
 use Rattle.model.specs.Node as M
 use Rattle.model.specs.Calls as calls
@@ -64,9 +63,9 @@ storedView n =
       settings = n .settings;
       own = n .own;
       table = map toMember (n .members .table);
-      order = n .members .order;
+      order = n .members .order .row;
       listed = n .members .len;
-      position = n .members .position;
+      position = n .members .order .position;
       alive = heapRow (n .disseminator .alive);
       deceased = heapRow (n .disseminator .deceased);
       timers = rowView (n .timers);
@@ -77,7 +76,7 @@ unstored s =
     record {
       settings = s .settings;
       own = s .own;
-      members = record { table = map fromMember (s .table); order = s .order; len = s .listed; position = s .position };
+      members = record { table = map fromMember (s .table); len = s .listed; order = record { row = s .order; position = s .position } };
       disseminator = record { alive = rowHeap (s .alive); deceased = rowHeap (s .deceased) };
       timers = rowTimers (s .timers);
     }
@@ -91,15 +90,6 @@ withDisseminator n d = record { settings = n .settings; own = n .own; members = 
 
 abbrev pub withTimers : Node → Timers → Node
 withTimers n t = record { settings = n .settings; own = n .own; members = n .members; disseminator = n .disseminator; timers = t }
-
--- an event was pushed, or the node is as it came since its heap was full
-pub record Emitted : Type 0 where
-  pub node : Node
-  pub full : Bool
-
-abbrev pub emittedOf : Node → A.Answer (M.Out Addr) → Emitted
-emittedOf n (A.refused r) = record { node = n; full = true }
-emittedOf n (A.done o ds) = record { node = packNode (o .node); full = false }
 
 -- gossip was chosen, into a row of 64
 abbrev pub spreadOf : M.Spread Addr → Spread

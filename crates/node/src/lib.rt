@@ -11,6 +11,7 @@ use model::Drew;
 use model::Refusal;
 use model::Reply;
 use model::Settings;
+use order::Order;
 use timers::Timers;
 use types::Action;
 use types::Optional;
@@ -73,12 +74,11 @@ fn nobody_listed() -> Members
     ensures { λ r. ⌜ r ≡ packMembers (nobody .members) ⌝ }
 {
     let table = [Member::none(); Members::CAPACITY];
-    let order = [address::blank(); Members::CAPACITY];
+    let row = [address::blank(); Members::CAPACITY];
     Members {
         table,
-        order,
         len: 0,
-        position: 0,
+        order: Order { row, position: 0 },
     }
 }
 

@@ -11,6 +11,7 @@ ghost use mathlib.Core.Path.{_≡_};
 ghost use Prim.Native.Nat.{_≤_};
 ghost use Rattle.address.specs.Here.{here};
 ghost use Rattle.model.specs.Node as M;
+ghost use Rattle.disseminate.specs.Fit.{most-chosen};
 ghost use Rattle.node.specs.Views.{viewNode, packNode, withMembers, withDisseminator, withTimers, spreadOf};
 ghost use Rattle.node.specs.Rows.{Ready};
 
@@ -78,7 +79,7 @@ impl Node {
     pub fn spread(self) -> Spread
         requires { ⌜ Ready self ⌝ }
         ensures { λ r. ⌜ r ≡ spreadOf (M.spread here (viewNode self)) ⌝ }
-        ensures within { λ r. ⌜ r .count ≤ 58 ⌝ }
+        ensures within { λ r. ⌜ r .count ≤ most-chosen ⌝ }
     {
         let settings = self.settings;
         let members = self.members;

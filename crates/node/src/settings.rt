@@ -1,48 +1,21 @@
 // The ranges of the settings.
 use model::Settings;
+use model::both;
 ghost use mathlib.Core.Path.{_≡_};
 ghost use Rattle.model.specs.Sound.{inRange};
-ghost use Rattle.node.specs.Ranges.{waitsInRange};
 
-// "four waits below 2^31 ticks"
-const WAIT_END: u32 = 2147483648;
-
-fn waits_in_range(c: Settings) -> bool
-    ensures { λ r. ⌜ r ≡ waitsInRange c ⌝ }
-{
-    if WAIT_END <= c.ping_interval {
-        return false;
-    }
-    if WAIT_END <= c.ping_timeout {
-        return false;
-    }
-    if WAIT_END <= c.ping_req_timeout {
-        return false;
-    }
-    c.suspect_timeout < WAIT_END
-}
-
-// "group 0 to 4, send constant 0 to 8, max_selected 1 to 64, max_size 59 to 1400"
+// "four waits below 2^31 ticks, group 0 to 4, send constant 0 to 8, max_selected 1 to 64, max_size 59 to 1400": each line asks more.
 pub fn in_range(c: Settings) -> bool
     ensures { λ r. ⌜ r ≡ inRange c ⌝ }
 {
-    if !waits_in_range(c) {
-        return false;
-    }
-    if 4 < c.ping_req_group_size {
-        return false;
-    }
-    if 8 < c.send_constant {
-        return false;
-    }
-    if c.max_selected < 1 {
-        return false;
-    }
-    if 64 < c.max_selected {
-        return false;
-    }
-    if c.max_size < 59 {
-        return false;
-    }
-    c.max_size <= 1400
+    let interval = c.ping_interval < Settings::WAIT_END;
+    let ping = both(interval, c.ping_timeout < Settings::WAIT_END);
+    let request = both(ping, c.ping_req_timeout < Settings::WAIT_END);
+    let waits = both(request, c.suspect_timeout < Settings::WAIT_END);
+    let group = both(waits, c.ping_req_group_size <= Settings::MOST_GROUP);
+    let constant = both(group, c.send_constant <= Settings::MOST_CONSTANT);
+    let some = both(constant, Settings::LEAST_SELECTED <= c.max_selected);
+    let selected = both(some, c.max_selected <= Settings::MOST_SELECTED);
+    let least = both(selected, Settings::LEAST_SIZE <= c.max_size);
+    both(least, c.max_size <= Settings::GREATEST_SIZE)
 }

@@ -1,8 +1,6 @@
 // Is a node that was handed in sound? Each part has its own clauses.
 use crate::Node;
 use address::Address;
-use heap::Entry;
-use heap::Heap;
 use member::Member;
 use member::Members;
 use model::Kind;
@@ -26,9 +24,9 @@ pub fn sound(node: Node) -> bool
     let listed = member::sound::sound_members(members);
     let disseminator = node.disseminator;
     let alive = disseminator.alive;
-    let living = heap::sound::heap_sound(alive, Kind::Alive);
+    let living = heap::sound::heap_sound(alive, Kind::Alive, node.own);
     let deceased = disseminator.deceased;
-    let dead = heap::sound::heap_sound(deceased, Kind::Deceased);
+    let dead = heap::sound::heap_sound(deceased, Kind::Deceased, node.own);
     let timers = node.timers;
     let running = timers::sound_timers(timers);
     both(
@@ -44,10 +42,6 @@ fn has_table(table: [Member; Members::CAPACITY])
 
 fn has_order(order: [Address; Members::CAPACITY])
     ensures { λ _. ⌜ length order ≡ 64 ⌝ }
-{}
-
-fn has_entries(entries: [Entry; Heap::CAPACITY])
-    ensures { λ _. ⌜ length entries ≡ 128 ⌝ }
 {}
 
 fn has_timers(entries: [Timer; Timers::CAPACITY])
@@ -66,11 +60,12 @@ pub fn has_rows(node: Node)
     let table = members.table;
     has_table(table);
     let order = members.order;
-    has_order(order);
+    let row = order.row;
+    has_order(row);
     let living = alive.entries;
-    has_entries(living);
+    heap::sound::has_entries(living);
     let dead = deceased.entries;
-    has_entries(dead);
+    heap::sound::has_entries(dead);
     let running = timers.entries;
     has_timers(running);
 }

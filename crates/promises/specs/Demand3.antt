@@ -32,8 +32,8 @@ use Rattle.node.specs.declared.Letter.{Letter}
 use Rattle.node.specs.declared.Answer.{Answer}
 use Rattle.node.specs.Views.{storedView, viewNode, createdOf, fromMessage}
 use Rattle.node.specs.Rows.{loaded-view}
-use Rattle.detection.specs.declared.Wait.{Wait}
-use Rattle.detection.specs.Views.{freshWait, toWait}
+use Rattle.wait.specs.declared.Wait.{Wait}
+use Rattle.wait.specs.Views.{freshWait, toWait}
 use Rattle.swim.specs.Contracts.{Creates, rowAfter}
 use Rattle.promises.specs.Replies.{done-apart}
 use Rattle.promises.specs.Made.{Held, Said, Accepted, Made}

@@ -17,8 +17,8 @@ use Rattle.types.specs.Views.{toGossip, toAction}
 use Rattle.node.specs.declared.Node.{Node}
 use Rattle.node.specs.declared.Answer.{Answer}
 use Rattle.node.specs.Views.{answerOf, createdOf}
-use Rattle.detection.specs.declared.Wait.{Wait}
-use Rattle.detection.specs.Views.{fromWait}
+use Rattle.wait.specs.declared.Wait.{Wait}
+use Rattle.wait.specs.Views.{fromWait}
 use Rattle.swim.specs.Contracts.{Creates, room, outcomeOf, rowAfter, addOf, messageOf, stepOf, timerOf}
 use Rattle.promises.specs.Made.{Held, Said, Accepted, Made, adds, receives, steps, endsTimer}
 use Rattle.promises.specs.Runs.{Runs, rests, makes}

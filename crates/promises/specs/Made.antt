@@ -14,7 +14,7 @@ use Rattle.types.specs.Views.{toGossip, toAction}
 use Rattle.node.specs.declared.Node.{Node}
 use Rattle.node.specs.declared.Letter.{Letter}
 use Rattle.node.specs.declared.Answer.{Answer}
-use Rattle.detection.specs.declared.Wait.{Wait}
+use Rattle.wait.specs.declared.Wait.{Wait}
 use Rattle.swim.specs.declared.Outcome.{Outcome}
 use Rattle.swim.specs.Contracts.{room, Adds, Receives, Steps, EndsTimer}
 

@@ -19,8 +19,8 @@ use Rattle.node.specs.declared.Node.{Node}
 use Rattle.node.specs.declared.Answer.{Answer}
 use Rattle.node.specs.Views.{storedView, answerOf, createdOf, plainAnswer, packNode, nobody}
 use Rattle.node.specs.Rows.{unstored-stored}
-use Rattle.detection.specs.declared.Wait.{Wait}
-use Rattle.detection.specs.Views.{toWait, fromWait, from-to-wait}
+use Rattle.wait.specs.declared.Wait.{Wait}
+use Rattle.wait.specs.Views.{toWait, fromWait, from-to-wait}
 use Rattle.swim.specs.declared.Outcome.{Outcome}
 use Rattle.swim.specs.Contracts.{room, outcomeOf, rowAfter, Ends, Creates, Adds, Receives, Steps, EndsTimer}
 use Rattle.promises.specs.Replies.{NotDone, done-apart}

@@ -20,8 +20,8 @@ use Rattle.member.specs.Views.{toMember, fromMember}
 use Rattle.timers.specs.Views.{toTimer, fromTimer}
 use Rattle.node.specs.declared.Node.{Node}
 use Rattle.node.specs.Views.{storedView, unstored, answerOf, fromMessage, noLetter}
-use Rattle.detection.specs.declared.Wait.{Wait}
-use Rattle.detection.specs.Views.{toWait, to-from-wait}
+use Rattle.wait.specs.declared.Wait.{Wait}
+use Rattle.wait.specs.Views.{toWait, to-from-wait}
 use Rattle.swim.specs.Contracts.{outcomeOf, rowAfter, addOf, messageOf, stepOf, timerOf}
 use Rattle.promises.specs.Made.{lettersOf, Held, Said, Made, adds, receives, steps, endsTimer}
 use Rattle.promises.specs.Refused.{nothing-written}

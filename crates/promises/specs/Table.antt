@@ -25,8 +25,8 @@ use Rattle.types.specs.Views.{toGossip, toAction}
 use Rattle.node.specs.declared.Node.{Node}
 use Rattle.node.specs.declared.Answer.{Answer}
 use Rattle.node.specs.Views.{storedView, answerOf}
-use Rattle.detection.specs.declared.Wait.{Wait}
-use Rattle.detection.specs.Views.{toWait}
+use Rattle.wait.specs.declared.Wait.{Wait}
+use Rattle.wait.specs.Views.{toWait}
 use Rattle.swim.specs.declared.Outcome.{Outcome}
 use Rattle.swim.specs.Contracts.{room, outcomeOf, Adds, Receives, Steps, EndsTimer}
 use Rattle.swim.specs.Lookups.{handed}

@@ -10,7 +10,7 @@ use Rattle.types.specs.declared.Gossip.{Gossip}
 use Rattle.types.specs.declared.Action.{Action}
 use Rattle.node.specs.declared.Node.{Node}
 use Rattle.node.specs.declared.Answer.{Answer}
-use Rattle.detection.specs.declared.Wait.{Wait}
+use Rattle.wait.specs.declared.Wait.{Wait}
 use Rattle.swim.specs.declared.Outcome.{Outcome}
 use Rattle.swim.specs.Contracts.{Ends, Creates, Adds, Receives, Steps, EndsTimer}
 

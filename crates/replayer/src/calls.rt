@@ -2,8 +2,6 @@
 use crate::host::Host;
 use crate::host::Rooms;
 use address::Address;
-use detection::Wait;
-use detection::WaitState;
 use model::Reply;
 use model::Settings;
 use report::put_reply;
@@ -16,6 +14,9 @@ use text::Command;
 use text::Phase;
 use text::Records;
 use types::Action;
+use types::Gossip;
+use wait::Wait;
+use wait::WaitState;
 
 pub struct Rows {
     pub gossip: usize,
@@ -54,7 +55,7 @@ fn create(
     tick: u32,
     out: &mut [u8],
 ) -> Host {
-    let answer = node::create(settings, own, number);
+    let answer = swim::create(settings, own, number);
     let reply = answer.reply;
     let node = answer.node;
     let at = put_reply(out, host.unwritten, reply);
@@ -84,11 +85,23 @@ fn add(host: Host, peer: Address, number: u64, draws: &[u64], out: &mut [u8]) ->
     }
     let before = host.node;
     let wait = host.wait;
-    let answer = node::add_peer(before, peer, number, draws);
+    let answer = swim::add_peer(before, peer, number, draws);
     let reply = answer.reply;
     let after = answer.node;
     let at = put_reply(out, host.unwritten, reply);
     host.shown(after, wait, at, out)
+}
+
+// The records with a place more, so that a row of more than 64 can be lent.
+fn one_longer(rows: [Gossip; 64]) -> [Gossip; 65] {
+    let none = Gossip::none();
+    let mut out = [none; 65];
+    let mut i = 0;
+    while i < 64 {
+        out[i] = rows[i];
+        i += 1;
+    }
+    out
 }
 
 fn receive(host: Host, action: Action, records: Records, draws: &[u64], out: &mut [u8]) -> Host {
@@ -100,14 +113,17 @@ fn receive(host: Host, action: Action, records: Records, draws: &[u64], out: &mu
     let rooms = host.rooms;
     let lent = rows_for(rooms, 64, 65);
     let rows = records.rows;
-    let received = message::receive(
+    let none = Gossip::none();
+    let received = lender::receive(
         before,
         action,
-        rows,
-        records.given,
+        one_longer(rows),
+        least(records.given, 65),
         draws,
-        lent.gossip,
-        lent.events,
+        [none; 64],
+        least(lent.gossip, 64),
+        [none; 65],
+        least(lent.events, 65),
     );
     let answer = received.answer;
     let gossip = received.gossip;
@@ -126,7 +142,17 @@ fn step(host: Host, now: u32, draws: &[u64], out: &mut [u8]) -> Host {
     let held = host.wait;
     let rooms = host.rooms;
     let lent = rows_for(rooms, 256, 1);
-    let stepped = detection::step(before, held, now, draws, lent.gossip, lent.events);
+    let none = Gossip::none();
+    let stepped = lender::step(
+        before,
+        held,
+        now,
+        draws,
+        [none; 256],
+        least(lent.gossip, 256),
+        [none; 1],
+        least(lent.events, 1),
+    );
     let answer = stepped.answer;
     let gossip = stepped.gossip;
     let events = stepped.events;
@@ -145,7 +171,8 @@ fn end_timer(host: Host, now: u32, out: &mut [u8]) -> Host {
     let wait = host.wait;
     let rooms = host.rooms;
     let lent = rows_for(rooms, 0, 1);
-    let ended = detection::end_timer(before, now, lent.gossip, lent.events);
+    let none = Gossip::none();
+    let ended = lender::end_timer(before, now, [none; 1], least(lent.events, 1));
     let answer = ended.answer;
     let events = ended.events;
     let reply = answer.reply;

@@ -1,10 +1,10 @@
 // What a host keeps from call to call.
-use detection::Wait;
 use node::Node;
 use report::put_byte;
 use report::put_bytes;
 use report::put_marked;
 use show::put_state;
+use wait::Wait;
 
 // How many gossip and event places are lent, if a script says so.
 pub enum Rooms {

@@ -6,7 +6,7 @@ use mathlib.Core.Option.{Option, none, some}
 use Prim.Native.Nat.{ℕ, _-_}
 use lib.ListN.{length, drop}
 use Rattle.model.specs.declared.Drew.the-variants.{Used}
-use Rattle.address.specs.Here.{here}
+use Rattle.address.specs.Here.{Addr, here}
 use Rattle.model.specs.Handler as M
 use Rattle.types.specs.Views.{toEvent, fromEvent, to-from-event}
 use Rattle.disseminate.specs.declared.Found.{Found}
@@ -28,7 +28,7 @@ pub to-from-found : (o : Option ℕ) → toFound (fromFound o) ≡ o
 to-from-found none = refl
 to-from-found (some n) = refl
 
-abbrev pub fromVerdict : M.Verdict ℕ → Verdict
+abbrev pub fromVerdict : M.Verdict Addr → Verdict
 fromVerdict M.Skip = Skip
 fromVerdict M.Unknown = Unknown
 fromVerdict M.Equal = Equal
@@ -41,7 +41,7 @@ fromVerdict (M.Recover a n) = Recover a n
 fromVerdict (M.Suspect a n) = Suspect a n
 fromVerdict (M.Bury a n) = Bury a n
 
-abbrev pub toVerdict : Verdict → M.Verdict ℕ
+abbrev pub toVerdict : Verdict → M.Verdict Addr
 toVerdict Skip = M.Skip
 toVerdict Unknown = M.Unknown
 toVerdict Equal = M.Equal
@@ -54,7 +54,7 @@ toVerdict (Recover a n) = M.Recover a n
 toVerdict (Suspect a n) = M.Suspect a n
 toVerdict (Bury a n) = M.Bury a n
 
-pub to-from-verdict : (v : M.Verdict ℕ) → toVerdict (fromVerdict v) ≡ v
+pub to-from-verdict : (v : M.Verdict Addr) → toVerdict (fromVerdict v) ≡ v
 to-from-verdict M.Skip = refl
 to-from-verdict M.Unknown = refl
 to-from-verdict M.Equal = refl
@@ -67,15 +67,15 @@ to-from-verdict (M.Recover a n) = refl
 to-from-verdict (M.Suspect a n) = refl
 to-from-verdict (M.Bury a n) = refl
 
-abbrev pub fromNews : M.News ℕ → News
+abbrev pub fromNews : M.News Addr → News
 fromNews M.Silent = Silent
 fromNews (M.Emits k e) = Emits k (fromEvent e)
 
-abbrev pub toNews : News → M.News ℕ
+abbrev pub toNews : News → M.News Addr
 toNews Silent = M.Silent
 toNews (Emits k e) = M.Emits k (toEvent e)
 
-pub to-from-news : (n : M.News ℕ) → toNews (fromNews n) ≡ n
+pub to-from-news : (n : M.News Addr) → toNews (fromNews n) ≡ n
 to-from-news M.Silent = refl
 to-from-news (M.Emits k e) = ap (M.Emits k) (to-from-event e)
 
@@ -84,5 +84,5 @@ abbrev pub stayed : Members → Kept
 stayed m = record { members = m; drew = Used 0 }
 
 -- the list after a verdict, of the draws from a place on; where it is refused the members are as they came
-abbrev pub listAfterOf : Members → M.Verdict ℕ → List ℕ → ℕ → Kept
+abbrev pub listAfterOf : Members → M.Verdict Addr → List ℕ → ℕ → Kept
 listAfterOf m v draws from = keptAs m (length draws - from) (M.listAfter here v (viewMembers m) (drop from draws))

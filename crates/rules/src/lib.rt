@@ -47,11 +47,15 @@ pub enum News {
     Emits { kind: Kind, event: Event },
 }
 
-// One of two verdicts. Both are at hand, so that a rule has one way out.
-fn pick(test: bool, passed: Verdict, failed: Verdict) -> Verdict
-    ensures { λ r. ⌜ r ≡ rows.pick test passed failed ⌝ }
+// The verdict on a listed address by a test of its record, or that on one that is not listed. All are at hand, so that a rule has one way out.
+fn weighed(listed: bool, passes: bool, passed: Verdict, failed: Verdict, absent: Verdict) -> Verdict
+    ensures { λ r. ⌜ r ≡ rows.pick listed (rows.pick passes passed failed) absent ⌝ }
 {
-    if test { passed } else { failed }
+    if listed {
+        if passes { passed } else { failed }
+    } else {
+        absent
+    }
 }
 
 fn plus_one(number: u64) -> Found
@@ -78,9 +82,16 @@ fn joined_at(members: Members, a: Address, number: u64) -> Verdict
     requires { ⌜ Held members ⌝ }
     ensures { λ r. ⌜ r ≡ fromVerdict (handler.joinedAt here a number (viewMembers members .table)) ⌝ }
 {
-    let higher = members.member_number(a) < number;
-    let raised = pick(higher, Verdict::Raise { addr: a, number }, Verdict::Low);
-    pick(members.lists(a), raised, Verdict::Enter { addr: a, number })
+    let held = members.find(a);
+    let higher = held.number < number;
+    let raised = Verdict::Raise { addr: a, number };
+    weighed(
+        held.listed,
+        higher,
+        raised,
+        Verdict::Low,
+        Verdict::Enter { addr: a, number },
+    )
 }
 
 fn greater(a: u64, b: u64) -> u64
@@ -106,9 +117,10 @@ fn recovered(members: Members, a: Address, number: u64) -> Verdict
     requires { ⌜ Held members ⌝ }
     ensures { λ r. ⌜ r ≡ fromVerdict (handler.recovered here a number (viewMembers members .table)) ⌝ }
 {
-    let higher = members.member_number(a) < number;
-    let back = pick(higher, Verdict::Recover { addr: a, number }, Verdict::Low);
-    pick(members.lists(a), back, Verdict::Unknown)
+    let held = members.find(a);
+    let higher = held.number < number;
+    let back = Verdict::Recover { addr: a, number };
+    weighed(held.listed, higher, back, Verdict::Low, Verdict::Unknown)
 }
 
 fn is_alive(state: State) -> bool
@@ -139,7 +151,10 @@ fn doubted(state: State, held: u64, number: u64) -> Verdict
     if is_alive(state) {
         return Verdict::Low;
     }
-    pick(number == held, Verdict::Equal, Verdict::Low)
+    if number == held {
+        return Verdict::Equal;
+    }
+    Verdict::Low
 }
 
 // Suspected of another: listed and believed: set Suspected, emit.
@@ -147,14 +162,15 @@ fn suspected_other(members: Members, a: Address, number: u64) -> Verdict
     requires { ⌜ Held members ⌝ }
     ensures { λ r. ⌜ r ≡ fromVerdict (handler.suspectedOther here a number (viewMembers members .table)) ⌝ }
 {
-    let state = members.member_state(a);
-    let held = members.member_number(a);
-    let heard = pick(
-        believed(state, held, number),
+    let held = members.find(a);
+    let state = held.state;
+    weighed(
+        held.listed,
+        believed(state, held.number, number),
         Verdict::Suspect { addr: a, number },
-        doubted(state, held, number),
-    );
-    pick(members.lists(a), heard, Verdict::Unknown)
+        doubted(state, held.number, number),
+        Verdict::Unknown,
+    )
 }
 
 // The own address is suspected: emit Recovered with number + 1; own record unmoved.
@@ -184,9 +200,10 @@ fn deceased(members: Members, a: Address, number: u64) -> Verdict
     requires { ⌜ Held members ⌝ }
     ensures { λ r. ⌜ r ≡ fromVerdict (handler.deceased here a number (viewMembers members .table)) ⌝ }
 {
-    let reaches = members.member_number(a) <= number;
-    let gone = pick(reaches, Verdict::Bury { addr: a, number }, Verdict::Low);
-    pick(members.lists(a), gone, Verdict::Unknown)
+    let held = members.find(a);
+    let reaches = held.number <= number;
+    let gone = Verdict::Bury { addr: a, number };
+    weighed(held.listed, reaches, gone, Verdict::Low, Verdict::Unknown)
 }
 
 // The verdict on an event, by the list, the own address and D of the address that it is about. No event is skipped.
@@ -272,7 +289,7 @@ pub fn list_after(members: Members, verdict: Verdict, draws: &[u64], from: usize
         },
         Verdict::Refute(_) => kept(members),
         Verdict::Enter { addr, number } => members.add_member(addr, number, draws, from),
-        Verdict::Raise { addr, number } => set(members, addr, members.member_state(addr), number),
+        Verdict::Raise { addr, number } => kept(members.raise_number(addr, number)),
         Verdict::Recover { addr, number } => set(members, addr, State::Alive, number),
         Verdict::Suspect { addr, number } => set(members, addr, State::Suspected, number),
         Verdict::Bury { addr, number: _ } => kept(members.remove_member(addr)),

@@ -1,7 +1,5 @@
 // A node's state as text.
 use address::Address;
-use detection::Wait;
-use detection::WaitState;
 use heap::Entry;
 use member::Member;
 use node::Node;
@@ -13,6 +11,8 @@ use report::put_marked_address;
 use report::put_member;
 use report::put_timer;
 use timers::Timer;
+use wait::Wait;
+use wait::WaitState;
 ghost use Prim.Native.Nat.{_≤_};
 
 // A count that a row's length bounds.
@@ -132,9 +132,10 @@ fn put_list(out: &mut [u8], at: usize, node: Node) -> usize {
     let members = node.members;
     let table = members.table;
     let order = members.order;
+    let row = order.row;
     let word = put_bytes(out, at, b"@ ");
-    let position = report::put_number(out, word, members.position as u64);
-    put_members(out, position, table, order, least(members.len, 64))
+    let position = report::put_number(out, word, order.position as u64);
+    put_members(out, position, table, row, least(members.len, 64))
 }
 
 fn put_heaps(out: &mut [u8], at: usize, node: Node) -> usize {

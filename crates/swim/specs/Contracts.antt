@@ -15,8 +15,8 @@ use Rattle.types.specs.Views.{toGossip, fromGossip, toAction}
 use Rattle.node.specs.declared.Node.{Node}
 use Rattle.node.specs.declared.Answer.{Answer}
 use Rattle.node.specs.Views.{storedView, answerOf, createdOf}
-use Rattle.detection.specs.declared.Wait.{Wait}
-use Rattle.detection.specs.Views.{toWait, fromWait}
+use Rattle.wait.specs.declared.Wait.{Wait}
+use Rattle.wait.specs.Views.{toWait, fromWait}
 use Rattle.swim.specs.declared.Outcome.{Outcome}
 
 -- how a call ended, its node and its messages, and how many events it reported

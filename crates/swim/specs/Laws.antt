@@ -25,9 +25,10 @@ use Rattle.types.specs.declared.Gossip.{Gossip}
 use Rattle.types.specs.Views.{toGossip, fromGossip, noGossip, from-to-gossips}
 use Rattle.message.specs.declared.Received.{Received}
 use Rattle.message.specs.Answers.{receivedOf, lentRows}
-use Rattle.detection.specs.declared.Stepped.{Stepped}
-use Rattle.detection.specs.declared.Ended.{Ended}
-use Rattle.detection.specs.Views.{steppedOf, endedOf, fromWait}
+use Rattle.wait.specs.declared.Stepped.{Stepped}
+use Rattle.timer_call.specs.declared.Ended.{Ended}
+use Rattle.wait.specs.Views.{steppedOf, fromWait}
+use Rattle.timer_call.specs.Views.{endedOf}
 use Rattle.swim.specs.declared.Outcome.{Outcome}
 use Rattle.swim.specs.Contracts.{outcomeOf, rowAfter, Ends}
 

@@ -2,12 +2,12 @@
 pub mod lookup;
 
 use address::Address;
-use detection::Wait;
 use model::Settings;
 use node::Answer;
 use node::Node;
 use types::Action;
 use types::Gossip;
+use wait::Wait;
 ghost use mathlib.Core.Path.{_≡_};
 ghost use Rattle.model.specs.Calls as calls;
 ghost use Rattle.node.specs.Views.{storedView, answerOf, createdOf};
@@ -90,7 +90,7 @@ pub fn step(
 pub fn end_timer(node: Node, tick: u32, events: &mut [Gossip]) -> Outcome
     ensures { λ r. ⌜ EndsTimer node tick (now (events .entry)) r (now (events .exit)) ⌝ }
 {
-    let done = detection::end_timer(node, tick, 0, events.len());
+    let done = timer_call::end_timer(node, tick, 0, events.len());
     lent::write_1(events, done.events, done.reported);
     Outcome {
         answer: done.answer,

@@ -1,16 +1,15 @@
 -- How the row of timers carries the model's list of timers.
 -- Assumes nothing.
-use mathlib.Core.Path.{_≡_, refl, ap, sym, _∙_}
 use mathlib.Core.Bool.{Bool}
-use mathlib.Core.List.{List, [], _∷_, _++_, map}
+use mathlib.Core.List.{List, map}
 use mathlib.Core.Option.{Option, none, some}
-use Prim.Native.Nat.{ℕ, _≤_, _<_}
-use lib.ListN.{length, take}
+use Prim.Native.Nat.{ℕ}
+use lib.ListN.{length}
 use Rattle.address.specs.Here.{Addr, here}
 use Rattle.model.specs.Words as W
 use Rattle.model.specs.Node.{Row}
 use Rattle.model.specs.Sound.{isNoTimer}
-use Rattle.laws.specs.Packing.{PackedRow, viewRow, packRow, view-pack, packed-pack, pack-view, view-length}
+use Rattle.laws.specs.Packing.{PackedRow, viewRow, packRow}
 use Rattle.timers.specs.declared.Timer.{Timer}
 use Rattle.timers.specs.declared.Timers.{Timers}
 use Rattle.timers.specs.declared.Ending.{Ending}

@@ -1,5 +1,6 @@
 // Declaration timers: a row of 16 places, in starting order.
 use address::Address;
+use model::both;
 ghost use mathlib.Core.Path.{_≡_};
 ghost use mathlib.Core.List.{[], _∷_, _++_, map};
 ghost use Prim.Native.Nat.{_≤_, _<_};
@@ -144,13 +145,8 @@ fn all_in_range(entries: [Timer; Timers::CAPACITY], n: usize) -> bool
 fn is_empty(t: Timer) -> bool
     ensures { λ r. ⌜ r ≡ isEmptyPlace t ⌝ }
 {
-    if !address::same(t.addr, address::blank()) {
-        return false;
-    }
-    if t.number != 0 {
-        return false;
-    }
-    t.since == 0
+    let free = address::same(t.addr, address::blank());
+    both(both(free, t.number == 0), t.since == 0)
 }
 
 // Are the places from n on unused?
@@ -178,8 +174,7 @@ pub fn sound_timers(timers: Timers) -> bool
     if Timers::CAPACITY < n {
         return false;
     }
-    if !all_in_range(entries, n) {
-        return false;
-    }
-    all_empty(entries, n)
+    let valid = all_in_range(entries, n);
+    let empty = all_empty(entries, n);
+    both(valid, empty)
 }

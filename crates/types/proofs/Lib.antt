@@ -1,3 +1,1 @@
-pub mod Sameness
 pub mod Measuring
-pub mod Ranging

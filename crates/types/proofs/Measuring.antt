@@ -1,19 +1,11 @@
--- The varint loop: how far it is and what is left come to the whole. And the size of a gossip by the parts of its event.
+-- The varint loop: how far it is and what is left come to the whole.
 -- Assumes nothing.
-use mathlib.Core.Path.{_≡_, refl, sym, _∙_, ap}
+use mathlib.Core.Path.{_≡_, refl, ap}
 use mathlib.Core.Bool.{Bool, true, false}
 use Prim.Native.Nat.{ℕ, zero, suc, _+_, _-_, _/_, _≤_, _<_}
 use native.Mathlib.Omega.{arith}
-use lib.Dec.{ltb}
-use borrow.Author.Tests.{lt-ltb, le-ltb, eq-eqb, ne-eqb}
-use Rattle.address.specs.Here.{here}
-use Rattle.model.specs.Words.{partsOf}
-use Rattle.model.specs.Size.{varintFrom, varintLength, numberSize, sizeOver, sizeOf}
-use Rattle.types.specs.SizeLaws.{partsSize, size-by-parts}
-use Rattle.types.specs.declared.Gossip.{Gossip}
-use Rattle.types.specs.declared.Parts.{Parts}
-use Rattle.types.specs.Views.{toEvent, toGossip, fromParts}
-use Rattle.types.proofs.Sameness.{toParts}
+use borrow.Author.Tests.{lt-ltb, le-ltb}
+use Rattle.model.specs.Size.{varintFrom, varintLength}
 
 last : (f n : ℕ) → n < 128 → varintFrom f n ≡ 1
 unfolding varintFrom
@@ -47,20 +39,3 @@ unfolding Counted varintFrom
 counted-out n rest len h e =
     let s : 10 - len ≡ 0 = omega arith in
     omega (arith, ap (λ (f : ℕ). varintFrom f rest) s)
-
-module _ (g : Gossip) (p : Parts) (e : p ≡ fromParts (partsOf here (toEvent (g .event)))) where
-  by-parts : partsSize here (toParts p) ≡ sizeOf here (toGossip g)
-  by-parts = ap (λ (x : Parts). partsSize here (toParts x)) e ∙ sym (size-by-parts here (toGossip g))
-
-  pub size-none : p .kind ≡ 0 → 0 ≡ sizeOf here (toGossip g)
-  size-none k = sym (rw (eq-eqb (p .kind) 0 k)) ∙ by-parts
-
-  pub size-some :
-      (f s m : ℕ) →
-      (p .kind ≡ 0 → ⊥) →
-      f ≡ here .chars (p .from) →
-      s ≡ here .chars (p .subject) →
-      m ≡ numberSize (p .number) →
-      2 + (2 + f) + (2 + s) + m ≡ sizeOf here (toGossip g)
-  unfolding sizeOver
-  size-some f s m k x y z = rw (x, y, z) (sym (rw (ne-eqb (p .kind) 0 k)) ∙ by-parts)

@@ -3,7 +3,7 @@
 use mathlib.Core.Path.{_≡_, refl}
 use mathlib.Core.List.{List, [], _∷_, map}
 use mathlib.Core.Option.{Option, none, some}
-use Rattle.address.specs.Here.{Addr}
+use Rattle.address.specs.Here.{Addr, here}
 use Rattle.model.specs.Words as W
 use Rattle.types.specs.declared.Event.{Event}
 use Rattle.types.specs.declared.Event.the-variants.{Nothing, Joined, Recovered, Suspected, Deceased}
@@ -13,6 +13,7 @@ use Rattle.types.specs.declared.Optional.the-variants.{Absent, Given}
 use Rattle.types.specs.declared.Action.{Action}
 use Rattle.types.specs.declared.Action.the-variants.{Ping, PingReq, Ack}
 use Rattle.types.specs.declared.Parts.{Parts}
+use Rattle.types.specs.declared.Measured.{Measured}
 
 abbrev pub toEvent : Event → W.Event Addr
 toEvent Nothing = W.Nothing
@@ -54,6 +55,16 @@ fromAction (W.Ack f o) = Ack f (fromOptional o)
 
 abbrev pub fromParts : W.Parts Addr → Parts
 fromParts p = record { kind = p .kind; from = p .from; subject = p .subject; number = p .number }
+
+abbrev pub toParts : Parts → W.Parts Addr
+toParts p = record { kind = p .kind; from = p .from; subject = p .subject; number = p .number }
+
+-- what was measured is the length of the address's text
+abbrev pub Right : Measured → Type 0
+Right m = m .chars ≡ here .chars (m .addr)
+
+abbrev pub measuredAt : Addr → Measured
+measuredAt a = record { addr = a; chars = here .chars a }
 
 -- a gossip of no event
 abbrev pub noGossip : Gossip

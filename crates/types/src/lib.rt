@@ -1,12 +1,13 @@
 // Events, gossip and actions, and how many bytes a gossip takes on the wire.
 use address::Address;
+use model::both;
 ghost use mathlib.Core.Path.{_≡_};
 ghost use Prim.Native.Nat.{_≤_};
 ghost use Rattle.address.specs.Here.{here};
 ghost use Rattle.model.specs.Words.{partsOf, sameGossip};
-ghost use Rattle.model.specs.Size.{varintLength, numberSize, sizeOf};
+ghost use Rattle.model.specs.Size.{varintLength, numberSize, sizeOver, sizeOf};
 ghost use Rattle.model.specs.Sound.{validGossip};
-ghost use Rattle.types.specs.Views.{toEvent, toGossip, fromParts};
+ghost use Rattle.types.specs.Views.{toEvent, toGossip, fromParts, noGossip, Right, measuredAt};
 
 // Nothing comes first: it is the event of an unused place.
 pub enum Event {
@@ -35,6 +36,17 @@ pub enum Event {
 
 pub struct Gossip {
     pub event: Event,
+}
+
+impl Gossip {
+    // A gossip of no event, as in an unused place.
+    pub fn none() -> Gossip
+        ensures { λ r. ⌜ r ≡ noGossip ⌝ }
+    {
+        Gossip {
+            event: Event::Nothing,
+        }
+    }
 }
 
 // An address that may be absent.
@@ -128,58 +140,46 @@ pub struct Parts {
     pub number: u64,
 }
 
+impl Parts {
+    fn of(kind: u64, from: Address, subject: Address, number: u64) -> Parts
+        ensures { λ r. ⌜ r ≡ record { kind = kind; from = from; subject = subject; number = number } ⌝ }
+    {
+        Parts {
+            kind,
+            from,
+            subject,
+            number,
+        }
+    }
+}
+
 // An event is matched once, here; whatever compares or measures events works on the parts.
 pub fn parts_of(e: Event) -> Parts
     ensures { λ r. ⌜ r ≡ fromParts (partsOf here (toEvent e)) ⌝ }
 {
     let blank = address::blank();
     match e {
-        Event::Nothing => Parts {
-            kind: 0,
-            from: blank,
-            subject: blank,
-            number: 0,
-        },
+        Event::Nothing => Parts::of(0, blank, blank, 0),
         Event::Joined {
             from,
             subject,
             number,
-        } => Parts {
-            kind: 1,
-            from,
-            subject,
-            number,
-        },
+        } => Parts::of(1, from, subject, number),
         Event::Recovered {
             from,
             subject,
             number,
-        } => Parts {
-            kind: 2,
-            from,
-            subject,
-            number,
-        },
+        } => Parts::of(2, from, subject, number),
         Event::Suspected {
             from,
             subject,
             number,
-        } => Parts {
-            kind: 3,
-            from,
-            subject,
-            number,
-        },
+        } => Parts::of(3, from, subject, number),
         Event::Deceased {
             from,
             subject,
             number,
-        } => Parts {
-            kind: 4,
-            from,
-            subject,
-            number,
-        },
+        } => Parts::of(4, from, subject, number),
     }
 }
 
@@ -191,16 +191,12 @@ pub fn same_gossip(a: Gossip, b: Gossip) -> bool
     let y = b.event;
     let p = parts_of(x);
     let q = parts_of(y);
-    if p.kind != q.kind {
-        return false;
-    }
-    if !address::same(p.from, q.from) {
-        return false;
-    }
-    if !address::same(p.subject, q.subject) {
-        return false;
-    }
-    p.number == q.number
+    let from = address::same(p.from, q.from);
+    let subject = address::same(p.subject, q.subject);
+    both(
+        both(both(p.kind == q.kind, from), subject),
+        p.number == q.number,
+    )
 }
 
 // The bytes of a number as a varint, seven bits a byte: a number of 64 bits has at most ten.
@@ -229,6 +225,42 @@ fn number_size(n: u64) -> u64
     1 + varint_len(n)
 }
 
+// An address and the length of its text: where many events are from one address, that is measured once.
+pub struct Measured {
+    pub addr: Address,
+    pub chars: u64,
+}
+
+impl Measured {
+    pub fn of(addr: Address) -> Measured
+        ensures { λ r. ⌜ r ≡ measuredAt addr ⌝ }
+    {
+        Measured {
+            addr,
+            chars: address::text_len(addr),
+        }
+    }
+
+    // The length of any address's text.
+    pub fn text_len(self, a: Address) -> u64
+        requires { ⌜ Right self ⌝ }
+        ensures { λ r. ⌜ (r ≡ here .chars a) × (r ≤ 21) ⌝ }
+    {
+        if address::same(a, self.addr) {
+            return self.chars;
+        }
+        address::text_len(a)
+    }
+}
+
+// The bytes of an event on the wire, by the lengths of its two texts.
+pub fn size_over(from: u64, subject: u64, number: u64) -> u64
+    requires { ⌜ (from ≤ 21) × (subject ≤ 21) ⌝ }
+    ensures { λ r. ⌜ (r ≡ sizeOver from subject number) × (r ≤ 59) ⌝ }
+{
+    2 + (2 + from) + (2 + subject) + number_size(number)
+}
+
 // The bytes of a gossip on the wire; one of no event has none.
 pub fn size_of(g: Gossip) -> u64
     ensures { λ r. ⌜ (r ≡ sizeOf here (toGossip g)) × (r ≤ 59) ⌝ }
@@ -240,7 +272,7 @@ pub fn size_of(g: Gossip) -> u64
     }
     let from = address::text_len(p.from);
     let subject = address::text_len(p.subject);
-    2 + (2 + from) + (2 + subject) + number_size(p.number)
+    size_over(from, subject, p.number)
 }
 
 // Are a gossip's addresses in range? One of no event holds none.
@@ -252,8 +284,7 @@ pub fn valid_gossip(g: Gossip) -> bool
     if p.kind == 0 {
         return true;
     }
-    if !address::in_range(p.from) {
-        return false;
-    }
-    address::in_range(p.subject)
+    let from = address::in_range(p.from);
+    let subject = address::in_range(p.subject);
+    both(from, subject)
 }

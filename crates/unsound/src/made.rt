@@ -8,6 +8,7 @@ use member::Members;
 use model::Settings;
 use model::State;
 use node::Node;
+use order::Order;
 use timers::Timer;
 use timers::Timers;
 use types::Event;
@@ -58,14 +59,13 @@ fn list() -> Members {
     let mut table = [Member::none(); 64];
     table[0] = peer(1, 0);
     table[1] = peer(2, 5);
-    let mut order = [address::blank(); 64];
-    order[0] = 2;
-    order[1] = 1;
+    let mut row = [address::blank(); 64];
+    row[0] = 2;
+    row[1] = 1;
     Members {
         table,
-        order,
         len: 2,
-        position: 1,
+        order: Order { row, position: 1 },
     }
 }
 
@@ -128,13 +128,9 @@ pub fn owned(mut node: Node, own: Address) -> Node {
 pub fn listed(mut node: Node, len: usize, position: usize) -> Node {
     let members = node.members;
     let table = members.table;
-    let order = members.order;
-    let changed = Members {
-        table,
-        order,
-        len,
-        position,
-    };
+    let mut order = members.order;
+    order.position = position;
+    let changed = Members { table, len, order };
     node.members = changed;
     node
 }
@@ -148,9 +144,8 @@ pub fn member_at(mut node: Node, place: usize, member: Member) -> Node {
     }
     let changed = Members {
         table,
-        order,
         len: members.len,
-        position: members.position,
+        order,
     };
     node.members = changed;
     node
@@ -160,14 +155,15 @@ pub fn ordered(mut node: Node, place: usize, addr: Address) -> Node {
     let members = node.members;
     let table = members.table;
     let mut order = members.order;
+    let mut row = order.row;
     if place < 64 {
-        order[place] = addr;
+        row[place] = addr;
     }
+    order.row = row;
     let changed = Members {
         table,
-        order,
         len: members.len,
-        position: members.position,
+        order,
     };
     node.members = changed;
     node

@@ -1,12 +1,11 @@
 // A node is handed to every call, and the refusals' numbers are written; 0 is no refusal.
-use detection::Wait;
 use libc::STDOUT_FILENO;
 use model::Reply;
 use node::Node;
 use types::Action;
-use types::Event;
 use types::Gossip;
 use types::Optional;
+use wait::Wait;
 
 fn refusal(reply: Reply) -> u64 {
     match reply {
@@ -30,9 +29,7 @@ fn tell_add(node: Node) {
 }
 
 fn tell_message(node: Node) {
-    let nothing = Gossip {
-        event: Event::Nothing,
-    };
+    let nothing = Gossip::none();
     let rows = [nothing; 64];
     let draws = [0u64; 1];
     let action = Action::new_ack(2, Optional::Absent);
@@ -52,7 +49,7 @@ fn tell_step(node: Node) {
 }
 
 fn tell_timer(node: Node) {
-    let ended = detection::end_timer(node, 55, 0, 1);
+    let ended = timer_call::end_timer(node, 55, 0, 1);
     let answer = ended.answer;
     let reply = answer.reply;
     tell_refusal(reply);

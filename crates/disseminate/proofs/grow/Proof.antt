@@ -13,14 +13,13 @@ returns c =
 
 returns-2 : tie.Need-returns-2
 returns-2 c =
-    let s = c .before .before .before .before in
-    grow-held (s .args .h) (s .pre) (toGossip (s .args .g)) _ _ (c .before .before .if1 .left) (c .before .size-of .ensures .0) (c .push .ensures)
+    let s = c .before .before .before in
+    grow-held (s .args .h) (s .pre) (toGossip (s .args .g)) _ (c .before .if1 .left) (c .emit .ensures)
 
 pub grow-spec : {M : Type 1} → statement M
 grow-spec =
     tie.close
     (tie.spec
     returns
-    (λ c κs. search needs)
     (λ c κs. search needs)
     returns-2)

@@ -12,9 +12,8 @@ unfolding packMembers
 returns c =
     λ i. record {
       table = replicate 64 (c .before .none .ensures i);
-      order = replicate 64 (c .blank .ensures i);
       len = 0;
-      position = 0;
+      order = record { row = replicate 64 (c .blank .ensures i); position = 0 };
     }
 
 pub nobody-listed-spec : {M : Type 1} → statement M

@@ -3,7 +3,7 @@
 use mathlib.Core.Path.{ap, sym, _∙_}
 use Prim.Native.Nat.{ℕ, max}
 use borrow.Author.Needs.{needs}
-use Rattle.address.specs.Here.{here}
+use Rattle.address.specs.Here.{Addr, here}
 use Rattle.model.specs.Node.{deathPlusOne}
 use Rattle.model.specs.Handler as M
 use Rattle.member.specs.Views.{viewMembers}
@@ -13,7 +13,7 @@ use Rattle.rules.proofs.joined.Statement.{statement}
 use Rattle.rules.proofs.joined.Tie as tie
 
 -- what there is at a least number
-abbrev by-least : tie.Start → ℕ → M.Verdict ℕ
+abbrev by-least : tie.Start → ℕ → M.Verdict Addr
 by-least s least = M.joinedAt here (s .args .a) (max least (s .args .number)) (viewMembers (s .args .members) .table)
 
 returns : tie.Need-returns

@@ -5,11 +5,10 @@ use Prim.Native.Nat.{_-_}
 use native.Mathlib.Omega.{arith}
 use lib.ListN.{length, drop, length-drop}
 use borrow.Author.Needs.{needs}
-use Rattle.model.specs.declared.State.{State}
 use Rattle.model.specs.declared.Drew.the-variants.{Used}
-use Rattle.address.specs.Here.{Addr, here}
+use Rattle.address.specs.Here.{Addr}
 use Rattle.model.specs.Answers.{done}
-use Rattle.model.specs.Members.{Members, update}
+use Rattle.model.specs.Members.{Members}
 use Rattle.model.specs.Handler as M
 use Rattle.member.specs.declared.Kept.{Kept}
 use Rattle.member.specs.Views.{viewMembers, packMembers, keptAs}
@@ -62,23 +61,19 @@ returns-7 c = let v = c .before .before in c .add-member .ensures ∙ sym (ap (a
 
 returns-8 : tie.Need-returns-8
 unfolding M.listAfter
-returns-8 c =
-    let m = c .before in
-    let v = m .before .before in
-    let s = v .before .before .before in
-    c .set .ensures ∙ ap (λ (x : State). stayed (packMembers (update (here .same) (record { addr = v .verdict2 .given .0 .0; state = x; number = v .verdict2 .given .0 .1 .0 }) (viewMembers (s .args .members))))) (m .member-state .ensures) ∙ changes s _ ∙ sym (ap (after s) (v .verdict2 .given .1))
+returns-8 c = let r = c .before in let v = r .before .before in let s = v .before .before .before in c .kept6 .ensures ∙ ap stayed (r .raise-number .ensures) ∙ changes s _ ∙ sym (ap (after s) (v .verdict2 .given .1))
 
 returns-9 : tie.Need-returns-9
 unfolding M.listAfter
-returns-9 c = let v = c .before .before in let s = v .before .before .before in c .set2 .ensures ∙ changes s _ ∙ sym (ap (after s) (v .verdict3 .given .1))
+returns-9 c = let v = c .before .before in let s = v .before .before .before in c .set .ensures ∙ changes s _ ∙ sym (ap (after s) (v .verdict3 .given .1))
 
 returns-10 : tie.Need-returns-10
 unfolding M.listAfter
-returns-10 c = let v = c .before .before in let s = v .before .before .before in c .set3 .ensures ∙ changes s _ ∙ sym (ap (after s) (v .verdict4 .given .1))
+returns-10 c = let v = c .before .before in let s = v .before .before .before in c .set2 .ensures ∙ changes s _ ∙ sym (ap (after s) (v .verdict4 .given .1))
 
 returns-11 : tie.Need-returns-11
 unfolding M.listAfter
-returns-11 c = let r = c .before in let v = r .before .before in let s = v .before .before .before in c .kept6 .ensures ∙ ap stayed (r .remove-member .ensures) ∙ changes s _ ∙ sym (ap (after s) (v .verdict5 .given .1))
+returns-11 c = let r = c .before in let v = r .before .before in let s = v .before .before .before in c .kept7 .ensures ∙ ap stayed (r .remove-member .ensures) ∙ changes s _ ∙ sym (ap (after s) (v .verdict5 .given .1))
 
 pub list-after-spec : {M : Type 1} → statement M
 list-after-spec =

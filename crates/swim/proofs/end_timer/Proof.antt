@@ -48,14 +48,14 @@ use Rattle.node.proofs.Node as N
 use Rattle.node.proofs.Node.Laws as N′
 use Rattle.node.proofs.Answer as R
 use Rattle.node.proofs.Answer.Laws as R′
-use Rattle.detection.specs.declared.Ended.{Ended}
-use Rattle.detection.specs.Views.{endedOf}
-use Rattle.detection.proofs.Ended as D
-use Rattle.detection.proofs.Ended.Laws as D′
-use Rattle.detection.proofs.end_timer as core
-use Rattle.detection.proofs.end_timer.Symbol as core-def
-use Rattle.detection.proofs.end_timer.Symbol.{name as #core}
-use Rattle.detection.proofs.end_timer.Met as core-thm
+use Rattle.timer_call.specs.declared.Ended.{Ended}
+use Rattle.timer_call.specs.Views.{endedOf}
+use Rattle.timer_call.proofs.Ended as D
+use Rattle.timer_call.proofs.Ended.Laws as D′
+use Rattle.timer_call.proofs.end_timer as core
+use Rattle.timer_call.proofs.end_timer.Symbol as core-def
+use Rattle.timer_call.proofs.end_timer.Symbol.{name as #core}
+use Rattle.timer_call.proofs.end_timer.Met as core-thm
 use Rattle.lent.proofs.Rows.{laid, field-rows}
 use Rattle.lent.proofs.write_1.Symbol as write-def
 use Rattle.lent.proofs.write_1.Symbol.{name as #write}
@@ -175,32 +175,52 @@ module _ {M : Type 1} (𝓤 : URA M) (H : Heap 𝓤) (A : Atoms 𝓤) (W : Given
       owned ! O.the-row (Is O.the-row) (LL.makes O.the-type O′.the-plain 𝓤 H A) (out (d .answer) (d .reported)) _ is $ done !
 
   module _ (C : Calls 𝓤 H) (Λ : Loops 𝓤 H) (fm : FmC 𝓤 H (W .laws) C) (known-core : Triple 𝓤 (C #core) (Core 𝓤 H A mem run)) (known-write : Triple 𝓤 (C #write) (Write 𝓤 H A 1)) where
-    -- the rest, once the call by value has been made: its event is written
-    module _ (l₀ l₁ l₂ l₃ l₄ l₅ l₆ l₇ l₈ : ℕ) (d : Ended) (ud : Val) (isd : Is D.the-row d (ud ∷ [])) (ed : Cored d) where
+    module _ (l₀ l₁ l₂ l₃ l₄ l₅ l₆ l₇ l₈ : ℕ) where
       abbrev En : Env 𝓤 H
       En = (O′.mir, l₀) ∷ (N′.mir, l₁) ∷ (tyInt w32, l₂) ∷ (rowTy 0, l₃) ∷ (D′.mir, l₄) ∷ (tyInt w64, l₅) ∷ (tyUnit, l₆) ∷ (onTy, l₇) ∷ (sliceTy onTy, l₈) ∷ []
 
-      abbrev Mid : List (Item 𝓤)
-      Mid = ‵ (flft κ q) ∷ ‵ (MutSlice (named 0) κ T.the-row .own xe (se ∷ []))
-          ∷ ‵ (froom (sliceTy onTy) l₈ 0) ∷ ‵ (fdies (sliceTy onTy) l₈) ∷ ‵ (froom onTy l₇ 0) ∷ ‵ (fdies onTy l₇) ∷ ‵ (froom tyUnit l₆ 0) ∷ ‵ (fdies tyUnit l₆) ∷ ‵ (fat fullShare (tyInt w64) l₅ 0 (vint w64 (length ys))) ∷ ‵ (fdies (tyInt w64) l₅)
-          ∷ ‵ (fat fullShare D′.mir l₄ 0 (dval d)) ∷ ‵ (fdies D′.mir l₄) ∷ ‵ (fat fullShare (rowTy 0) l₃ 0 se) ∷ ‵ (fdies (rowTy 0) l₃) ∷ ‵ (fat fullShare (tyInt w32) l₂ 0 (vint w32 t)) ∷ ‵ (fdies (tyInt w32) l₂) ∷ ‵ (fat fullShare N′.mir l₁ 0 (nval nd)) ∷ ‵ (fdies N′.mir l₁)
+      -- the start: the token, what events owns, and the locals, the last first
+      abbrev Start : List (Item 𝓤)
+      Start = ‵ (flft κ q) ∷ ‵ (MutSlice (named 0) κ T.the-row .own xe (se ∷ []))
+          ∷ ‵ (froom (sliceTy onTy) l₈ 0) ∷ ‵ (fdies (sliceTy onTy) l₈) ∷ ‵ (froom onTy l₇ 0) ∷ ‵ (fdies onTy l₇) ∷ ‵ (froom tyUnit l₆ 0) ∷ ‵ (fdies tyUnit l₆) ∷ ‵ (froom (tyInt w64) l₅ 0) ∷ ‵ (fdies (tyInt w64) l₅)
+          ∷ ‵ (froom D′.mir l₄ 0) ∷ ‵ (fdies D′.mir l₄) ∷ ‵ (fat fullShare (rowTy 0) l₃ 0 se) ∷ ‵ (fdies (rowTy 0) l₃) ∷ ‵ (fat fullShare (tyInt w32) l₂ 0 (vint w32 t)) ∷ ‵ (fdies (tyInt w32) l₂) ∷ ‵ (fat fullShare N′.mir l₁ 0 (nval nd)) ∷ ‵ (fdies N′.mir l₁)
           ∷ ‵ (froom O′.mir l₀ 0) ∷ ‵ (fdies O′.mir l₀) ∷ []
 
-      writes : length ys < 2 ^ 64 → Sq W Mid (runs C Λ En body.t-3 (atRet En Post))
-      writes fe =
-          -- [the token; what events owns; _8 at 2; …]
-          assigns ! (addr ! (from ! (fld ! refl (hop ! (look-in ! 12 (sub ! 0 refl (whole !))) (stop !))))) (from ! (stop !)) (init ! 4 refl (tt, tt)) $
-          assigns ! (agg ! (and-then ! (load ! (from ! (stop !)) (look ! 4 refl)) (and-then ! (load ! (from ! (fld ! refl (stop !))) (look-in ! 12 (sub ! 1 refl (whole !)))) (no-more !)))) (from ! (stop !)) (init ! 2 refl (tt, (tt, (record { fits = fe }, tt)))) $
-          use2 W (raw (Write 𝓤 H A 1 .pre (to-write 𝓤 H A 1 κ q b o γ ys (d .events) (d .reported)))) (ask-write 𝓤 H A 1 κ q b o γ ys W 0 (d .events) (d .reported) (events-are d ud isd) (reported-fits d ud isd) (ed .1, ed .2)) $
-          -- [pre; _8 at 1; …]
-          calls-at ! fm (Write 𝓤 H A 1) known-write (to-write 𝓤 H A 1 κ q b o γ ys (d .events) (d .reported)) (and-then ! (load ! (from ! (stop !)) (look ! 1 refl)) (and-then ! (load ! (from ! (fld ! {τ = tyArray T′.mir 1} {d = 8} refl (stop !))) (look-in ! 9 (in-events 𝓤 H A W l₄ d))) (and-then ! (load ! (from ! (fld ! {τ = tyInt w64} {d = 0} refl (stop !))) (look-in ! 9 (in-reported 𝓤 H A W l₄ d))) (no-more !)))) (λ u.
-          wrote ! tt 1 κ q b o γ ys (d .events) (d .reported) u (λ ws ew l r isu.
-          land ! (from ! (stop !)) (init ! 6 refl (nothing-lawful 𝓤 H A W .typed r _ isu .0)) $
-          -- [the token; the last list; _8 at 2; …]
-          assigns ! (agg ! (and-then ! (load ! (from ! (fld ! {τ = tyInt w64} {d = 0} refl (stop !))) (look-in ! 10 (in-reported 𝓤 H A W l₄ d))) (and-then ! (load ! (from ! (fld ! {τ = R′.mir} {d = 40} refl (stop !))) (look-in ! 10 (in-answer 𝓤 H A W l₄ d))) (no-more !)))) (from ! (stop !)) (init ! 18 refl (LL.lawful O.the-type O′.the-laws 𝓤 H A W .typed (out (d .answer) (d .reported)) _ (outcome-is d ud isd) .0)) $
-          returns ! (look ! 18 refl) $ forget ! 2 refl $ forget ! 4 refl $ forget ! 6 refl $ forget ! 8 refl $ forget ! 10 refl $ forget ! 12 refl $ forget ! 14 refl $ forget ! 16 refl $ forget ! 18 refl $
-          move ! (18 ∷ 19 ∷ []) $ free1 ! $ move ! (16 ∷ 17 ∷ []) $ free1 ! $ move ! (14 ∷ 15 ∷ []) $ free1 ! $ move ! (12 ∷ 13 ∷ []) $ free1 ! $ move ! (10 ∷ 11 ∷ []) $ free1 ! $ move ! (8 ∷ 9 ∷ []) $ free1 ! $ move ! (6 ∷ 7 ∷ []) $ free1 ! $ move ! (4 ∷ 5 ∷ []) $ free1 ! $ move ! (2 ∷ 3 ∷ []) $ free1 ! $ free0 ! $
-          keep ! (0 ∷ 1 ∷ []) $ by ! (exits d (outcome-is d ud isd) ws l (ed .0) ew)))
+      -- the rest, once the call by value has been made: its event is written
+      module _ (d : Ended) (ud : Val) (isd : Is D.the-row d (ud ∷ [])) (ed : Cored d) where
+        abbrev Mid : List (Item 𝓤)
+        Mid = ‵ (flft κ q) ∷ ‵ (MutSlice (named 0) κ T.the-row .own xe (se ∷ []))
+            ∷ ‵ (froom (sliceTy onTy) l₈ 0) ∷ ‵ (fdies (sliceTy onTy) l₈) ∷ ‵ (froom onTy l₇ 0) ∷ ‵ (fdies onTy l₇) ∷ ‵ (froom tyUnit l₆ 0) ∷ ‵ (fdies tyUnit l₆) ∷ ‵ (fat fullShare (tyInt w64) l₅ 0 (vint w64 (length ys))) ∷ ‵ (fdies (tyInt w64) l₅)
+            ∷ ‵ (fat fullShare D′.mir l₄ 0 (dval d)) ∷ ‵ (fdies D′.mir l₄) ∷ ‵ (fat fullShare (rowTy 0) l₃ 0 se) ∷ ‵ (fdies (rowTy 0) l₃) ∷ ‵ (fat fullShare (tyInt w32) l₂ 0 (vint w32 t)) ∷ ‵ (fdies (tyInt w32) l₂) ∷ ‵ (fat fullShare N′.mir l₁ 0 (nval nd)) ∷ ‵ (fdies N′.mir l₁)
+            ∷ ‵ (froom O′.mir l₀ 0) ∷ ‵ (fdies O′.mir l₀) ∷ []
+
+        writes : length ys < 2 ^ 64 → Sq W Mid (runs C Λ En body.t-3 (atRet En Post))
+        writes fe =
+            -- [the token; what events owns; _8 at 2; …]
+            assigns ! (addr ! (from ! (fld ! refl (hop ! (look-in ! 12 (sub ! 0 refl (whole !))) (stop !))))) (from ! (stop !)) (init ! 4 refl (tt, tt)) $
+            assigns ! (agg ! (and-then ! (load ! (from ! (stop !)) (look ! 4 refl)) (and-then ! (load ! (from ! (fld ! refl (stop !))) (look-in ! 12 (sub ! 1 refl (whole !)))) (no-more !)))) (from ! (stop !)) (init ! 2 refl (tt, (tt, (record { fits = fe }, tt)))) $
+            use2 W (raw (Write 𝓤 H A 1 .pre (to-write 𝓤 H A 1 κ q b o γ ys (d .events) (d .reported)))) (ask-write 𝓤 H A 1 κ q b o γ ys W 0 (d .events) (d .reported) (events-are d ud isd) (reported-fits d ud isd) (ed .1, ed .2)) $
+            -- [pre; _8 at 1; …]
+            calls-at ! fm (Write 𝓤 H A 1) known-write (to-write 𝓤 H A 1 κ q b o γ ys (d .events) (d .reported)) (and-then ! (load ! (from ! (stop !)) (look ! 1 refl)) (and-then ! (load ! (from ! (fld ! {τ = tyArray T′.mir 1} {d = 8} refl (stop !))) (look-in ! 9 (in-events 𝓤 H A W l₄ d))) (and-then ! (load ! (from ! (fld ! {τ = tyInt w64} {d = 0} refl (stop !))) (look-in ! 9 (in-reported 𝓤 H A W l₄ d))) (no-more !)))) (λ u.
+            wrote ! tt 1 κ q b o γ ys (d .events) (d .reported) u (λ ws ew l r isu.
+            land ! (from ! (stop !)) (init ! 6 refl (nothing-lawful 𝓤 H A W .typed r _ isu .0)) $
+            -- [the token; the last list; _8 at 2; …]
+            assigns ! (agg ! (and-then ! (load ! (from ! (fld ! {τ = tyInt w64} {d = 0} refl (stop !))) (look-in ! 10 (in-reported 𝓤 H A W l₄ d))) (and-then ! (load ! (from ! (fld ! {τ = R′.mir} {d = 40} refl (stop !))) (look-in ! 10 (in-answer 𝓤 H A W l₄ d))) (no-more !)))) (from ! (stop !)) (init ! 18 refl (LL.lawful O.the-type O′.the-laws 𝓤 H A W .typed (out (d .answer) (d .reported)) _ (outcome-is d ud isd) .0)) $
+            returns ! (look ! 18 refl) $ forget ! 2 refl $ forget ! 4 refl $ forget ! 6 refl $ forget ! 8 refl $ forget ! 10 refl $ forget ! 12 refl $ forget ! 14 refl $ forget ! 16 refl $ forget ! 18 refl $
+            move ! (18 ∷ 19 ∷ []) $ free1 ! $ move ! (16 ∷ 17 ∷ []) $ free1 ! $ move ! (14 ∷ 15 ∷ []) $ free1 ! $ move ! (12 ∷ 13 ∷ []) $ free1 ! $ move ! (10 ∷ 11 ∷ []) $ free1 ! $ move ! (8 ∷ 9 ∷ []) $ free1 ! $ move ! (6 ∷ 7 ∷ []) $ free1 ! $ move ! (4 ∷ 5 ∷ []) $ free1 ! $ move ! (2 ∷ 3 ∷ []) $ free1 ! $ free0 ! $
+            keep ! (0 ∷ 1 ∷ []) $ by ! (exits d (outcome-is d ud isd) ws l (ed .0) ew)))
+
+      -- the call by value
+      opened : Is N.the-row nd (nval nd ∷ []) → t < 2 ^ 32 → 0 < 2 ^ 64 → length ys < 2 ^ 64 → Sq W Start (runs C Λ En body.t-1 (atRet En Post))
+      opened isn ft f0 fe =
+          assigns ! (of-opd ! (load ! (from ! (fld ! refl (stop !))) (look-in ! 12 (sub ! 1 refl (whole !))))) (from ! (stop !)) (init ! 8 refl (tt, record { fits = fe })) $
+          use0 W (raw (Core 𝓤 H A mem run .pre to-core)) (ask-core isn ft f0 fe) $
+          calls-at ! fm (Core 𝓤 H A mem run) known-core to-core (and-then ! (load ! (from ! (stop !)) (look ! 17 refl)) (and-then ! (load ! (from ! (stop !)) (look ! 15 refl)) (and-then ! (lit ! tt) (and-then ! (load ! (from ! (stop !)) (look ! 9 refl)) (no-more !))))) (λ ud.
+          use1 W (later (some (λ (r : Ended). (‵ ftrue ⊛ ‵ (D.the-row .own r (ud ∷ []))) ⊛ raw (ensured 𝓤 H A core.ended (core.clauses 𝓤 H A mem run) tt args tt r)))) (id⊢ 𝓤 _) $ await ! tt $ pick ! (λ d.
+          split ! $ move ! (1 ∷ []) $ use1 W (raw (fact 𝓤 (Cored d))) (said-core d) $ heard ! (Cored d) (λ ed. split ! $ discard ! $
+          peeks ! D.the-row (Is D.the-row) (shows 𝓤 H A D.the-row) d (ud ∷ []) (λ isd. discard ! $
+          land ! (from ! (stop !)) (init ! 10 refl (LL.lawful D.the-type D′.the-laws 𝓤 H A W .typed d _ isd .0)) $ rewrite ! 10 (λ (v : Val). ‵ (fat fullShare D′.mir l₄ 0 v)) (ap only (LL.tells D.the-type D′.the-laws d _ isd)) refl $
+          writes d ud isd ed fe))))
 
     walk : Is N.the-row nd (nval nd ∷ []) → t < 2 ^ 32 → 0 < 2 ^ 64 → length ys < 2 ^ 64 → ent 𝓤 (onEntry 𝓤 H A thin.signature (κ, tt) (q, tt) a at) (WpFn 𝓤 H C Λ code.function (nval nd ∷ vint w32 t ∷ se ∷ []) Post)
     walk isn ft f0 fe =
@@ -209,14 +229,7 @@ module _ {M : Type 1} (𝓤 : URA M) (H : Heap 𝓤) (A : Atoms 𝓤) (W : Given
         pass1 ! (init ! 14 refl (LL.lawful N.the-type N′.the-laws 𝓤 H A W .typed nd _ isn .0)) $ pass1 ! (init ! 12 refl (tt, record { fits = ft })) $ pass1 ! (init ! 10 refl (tt, (tt, (record { fits = fe }, tt)))) $ pass0 ! $
         move ! (19 ∷ []) $ fsplit ! $ discard ! $ fsplit ! $ discard ! $ fsplit ! $ move ! (20 ∷ []) $ split ! $
         -- [the token; true; what events owns; true; _8 at 4; …]
-        assigns ! (of-opd ! (load ! (from ! (fld ! refl (stop !))) (look-in ! 14 (sub ! 1 refl (whole !))))) (from ! (stop !)) (init ! 10 refl (tt, record { fits = fe })) $
-        use0 W (raw (Core 𝓤 H A mem run .pre to-core)) (ask-core isn ft f0 fe) $
-        calls-at ! fm (Core 𝓤 H A mem run) known-core to-core (and-then ! (load ! (from ! (stop !)) (look ! 19 refl)) (and-then ! (load ! (from ! (stop !)) (look ! 17 refl)) (and-then ! (lit ! tt) (and-then ! (load ! (from ! (stop !)) (look ! 11 refl)) (no-more !))))) (λ ud.
-        use1 W (later (some (λ (r : Ended). (‵ ftrue ⊛ ‵ (D.the-row .own r (ud ∷ []))) ⊛ raw (ensured 𝓤 H A core.ended (core.clauses 𝓤 H A mem run) tt args tt r)))) (id⊢ 𝓤 _) $ await ! tt $ pick ! (λ d.
-        split ! $ move ! (1 ∷ []) $ use1 W (raw (fact 𝓤 (Cored d))) (said-core d) $ heard ! (Cored d) (λ ed. split ! $ discard ! $
-        peeks ! D.the-row (Is D.the-row) (shows 𝓤 H A D.the-row) d (ud ∷ []) (λ isd. discard ! $
-        land ! (from ! (stop !)) (init ! 12 refl (LL.lawful D.the-type D′.the-laws 𝓤 H A W .typed d _ isd .0)) $ rewrite ! 12 (λ (v : Val). ‵ (fat fullShare D′.mir l₄ 0 v)) (ap only (LL.tells D.the-type D′.the-laws d _ isd)) refl $
-        keep ! (0 ∷ 2 ∷ 4 ∷ 5 ∷ 6 ∷ 7 ∷ 8 ∷ 9 ∷ 10 ∷ 11 ∷ 12 ∷ 13 ∷ 14 ∷ 15 ∷ 16 ∷ 17 ∷ 18 ∷ 19 ∷ 20 ∷ 21 ∷ []) $ writes l₀ l₁ l₂ l₃ l₄ l₅ l₆ l₇ l₈ d ud isd ed fe)))))))))))))
+        keep ! (0 ∷ 2 ∷ 4 ∷ 5 ∷ 6 ∷ 7 ∷ 8 ∷ 9 ∷ 10 ∷ 11 ∷ 12 ∷ 13 ∷ 14 ∷ 15 ∷ 16 ∷ 17 ∷ 18 ∷ 19 ∷ 20 ∷ 21 ∷ []) $ opened l₀ l₁ l₂ l₃ l₄ l₅ l₆ l₇ l₈ isn ft f0 fe)))))))))
 
 module _ {M : Type 1} (𝓤 : URA M) (H : Heap 𝓤) (A : Atoms 𝓤) (W : Given 𝓤 H A) (mem : Memory → SProp 𝓤) (run : Routine → Fun 𝓤) where
   thin-walks : (C : Calls 𝓤 H) (Λ : Loops 𝓤 H) → FmC 𝓤 H (W .laws) C → Triple 𝓤 (C #core) (Core 𝓤 H A mem run) → Triple 𝓤 (C #write) (Write 𝓤 H A 1)
@@ -238,5 +251,5 @@ end-timer-spec 𝓤 H 𝓜 𝓖 𝓡 =
     entered 𝓤 H (tripleOf 𝓤 H (𝓖 .A) thin.signature (thin.spec 𝓤 H (𝓖 .A) (𝓜 .mem) (𝓡 .run)))
     (tables 𝓤 H 𝓜 𝓡 code.env .C) (tables 𝓤 H 𝓜 𝓡 code.env .Λ) #thin code.function (code.unfolded 𝓤 H 𝓜 𝓡)
     (thin-meets 𝓤 H (𝓖 .A) (givenOf 𝓤 H 𝓜 𝓖) (𝓜 .mem) (𝓡 .run) (tablesOf 𝓤 H 𝓜 (tables 𝓤 H 𝓜 𝓡 code.env))
-    (cited 𝓤 H (Core 𝓤 H (𝓖 .A) (𝓜 .mem) (𝓡 .run)) 𝓜 𝓡 code.env #core core-def.routine code.calls-detection·end-timer (core-thm.met 𝓤 H 𝓜 𝓖 𝓡))
+    (cited 𝓤 H (Core 𝓤 H (𝓖 .A) (𝓜 .mem) (𝓡 .run)) 𝓜 𝓡 code.env #core core-def.routine code.calls-timer-call·end-timer (core-thm.met 𝓤 H 𝓜 𝓖 𝓡))
     (cited 𝓤 H (Write 𝓤 H (𝓖 .A) 1) 𝓜 𝓡 code.env #write write-def.routine code.calls-lent·write-1 (write-thm.met 𝓤 H 𝓜 𝓖 𝓡)))

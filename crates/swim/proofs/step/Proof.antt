@@ -50,13 +50,13 @@ use Rattle.node.proofs.Node as N
 use Rattle.node.proofs.Node.Laws as N′
 use Rattle.node.proofs.Answer as R
 use Rattle.node.proofs.Answer.Laws as R′
-use Rattle.detection.specs.declared.Wait.{Wait}
-use Rattle.detection.specs.declared.Stepped.{Stepped}
-use Rattle.detection.specs.Views.{steppedOf}
-use Rattle.detection.proofs.Wait as Y
-use Rattle.detection.proofs.Wait.Laws as Y′
-use Rattle.detection.proofs.Stepped as D
-use Rattle.detection.proofs.Stepped.Laws as D′
+use Rattle.wait.specs.declared.Wait.{Wait}
+use Rattle.wait.specs.declared.Stepped.{Stepped}
+use Rattle.wait.specs.Views.{steppedOf}
+use Rattle.wait.proofs.Wait as Y
+use Rattle.wait.proofs.Wait.Laws as Y′
+use Rattle.wait.proofs.Stepped as D
+use Rattle.wait.proofs.Stepped.Laws as D′
 use Rattle.detection.proofs.step as core
 use Rattle.detection.proofs.step.Symbol as core-def
 use Rattle.detection.proofs.step.Symbol.{name as #core}

@@ -1,46 +1,32 @@
--- `timers::all_empty` meets its contract: what is left of the row still decides the answer.
+-- `timers::all_empty` meets its contract: each place from n to i has passed.
 -- Assumes nothing.
-use mathlib.Core.Path.{_≡_, refl, ap, sym, _∙_}
-use Prim.Native.Nat.{_+_, _-_, _≤_}
+use mathlib.Core.Path.{_≡_}
+use Prim.Native.Nat.{_-_}
 use native.Mathlib.Omega.{arith}
 use lib.ListN.{length, drop}
-use borrow.Author.Needs.{needs}
-use borrow.Author.Tests.{not-true, not-false}
 use Rattle.model.specs.Rows.{every}
-use Rattle.laws.specs.Bools.{loop-fails, loop-next, loop-ends}
+use Rattle.laws.specs.Loops.{Tested, test-from, test-fails, test-next, test-ends}
 use Rattle.timers.specs.Views.{noTimer, isEmptyPlace}
+use borrow.Author.Needs.{needs}
 use Rattle.timers.proofs.all_empty.Statement.{statement}
 use Rattle.timers.proofs.all_empty.Tie as tie
 
 abbrev Inv-loop : tie.InvT-loop
-Inv-loop n entries i₀ i = (i ≤ 16) × (every isEmptyPlace (drop i entries) ≡ every isEmptyPlace (drop n entries))
+Inv-loop n row i₀ i = Tested isEmptyPlace row 16 (every isEmptyPlace (drop n row)) i
 
 abbrev μ-loop : tie.MeasureT-loop
-μ-loop n entries i₀ i = 16 - i
+μ-loop n row i₀ i = 16 - i
+
+loop-holds : tie.Need-loop-holds Inv-loop μ-loop
+loop-holds c =
+    let long : length (c .args .t1) ≡ 16 = search needs in
+    test-from isEmptyPlace (c .args .t1) 16 (c .args .n) long (omega arith)
 
 returns : tie.Need-returns Inv-loop μ-loop
-returns c =
-    let s = c .before .before .before .before .before in
-    let i = c .before .before .before .before .loop .i in
-    let long : length (s .args .t1) ≡ 16 = search needs in
-    sym (loop-fails isEmptyPlace noTimer (s .args .t1) _ i (c .before .before .before .before .loop .inv .1) (omega arith)
-    (sym (c .before .is-empty .ensures) ∙ not-true _ (c .if1 .taken)))
+returns c = let l = c .before .before .before .before .loop in test-fails noTimer (l .inv) _ (omega arith) (c .before .is-empty .ensures) (c .if1 .taken)
 
 loop-again : tie.Need-loop-again Inv-loop μ-loop
-loop-again c =
-    let s = c .before .before .before .before .before in
-    let i = c .before .before .before .before .loop .i in
-    let long : length (s .args .t1) ≡ 16 = search needs in (
-      omega arith,
-      loop-next isEmptyPlace noTimer (s .args .t1) _ i (c .before .before .before .before .loop .inv .1) (omega arith)
-          (sym (c .before .is-empty .ensures) ∙ not-false _ (c .if1 .left)),
-    )
-
-returns-2 : tie.Need-returns-2 Inv-loop μ-loop
-returns-2 c =
-    let s = c .before .before in
-    let long : length (s .args .t1) ≡ 16 = search needs in
-    sym (loop-ends isEmptyPlace noTimer (s .args .t1) _ (c .before .loop .i) (c .before .loop .inv .1) (omega arith))
+loop-again c = let l = c .before .before .before .before .loop in test-next noTimer (l .inv) _ (omega arith) (c .before .is-empty .ensures) (c .if1 .left)
 
 pub all-empty-spec : {M : Type 1} → statement M
 all-empty-spec =
@@ -48,7 +34,7 @@ all-empty-spec =
     (tie.spec
     Inv-loop
     μ-loop
-    (λ c. (omega arith, refl))
+    loop-holds
     (λ c. search needs)
     (λ c. search needs)
     (λ c κs. search needs)
@@ -56,4 +42,4 @@ all-empty-spec =
     (λ c. search needs)
     (λ c. search needs)
     loop-again
-    returns-2)
+    (λ c. test-ends noTimer (c .before .loop .inv) (omega arith)))

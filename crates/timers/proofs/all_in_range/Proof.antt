@@ -1,50 +1,32 @@
--- `timers::all_in_range` meets its contract: what is left of the first n still decides the answer.
+-- `timers::all_in_range` meets its contract: each of the first i has passed.
 -- Assumes nothing.
-use mathlib.Core.Path.{_≡_, refl, ap, sym, _∙_}
-use Prim.Native.Nat.{_+_, _-_, _≤_}
+use mathlib.Core.Path.{_≡_}
+use Prim.Native.Nat.{_-_}
 use native.Mathlib.Omega.{arith}
-use lib.ListN.{length, getD, take, drop}
-use lib.Seq.{getD-take, length-take-le}
-use borrow.Author.Needs.{needs}
-use borrow.Author.Tests.{not-true, not-false}
+use lib.ListN.{length, take}
 use Rattle.model.specs.Rows.{every}
-use Rattle.laws.specs.Bools.{loop-fails, loop-next, loop-ends}
+use Rattle.laws.specs.Loops.{Tested, test-first, test-fails, test-next, test-ends}
 use Rattle.timers.specs.Views.{noTimer, hasRange}
+use borrow.Author.Needs.{needs}
 use Rattle.timers.proofs.all_in_range.Statement.{statement}
 use Rattle.timers.proofs.all_in_range.Tie as tie
 
 abbrev Inv-loop : tie.InvT-loop
-Inv-loop n entries i₀ i = (i ≤ n) × (every hasRange (drop i (take n entries)) ≡ every hasRange (take n entries))
+Inv-loop n row i₀ i = Tested hasRange row n (every hasRange (take n row)) i
 
 abbrev μ-loop : tie.MeasureT-loop
-μ-loop n entries i₀ i = n - i
+μ-loop n row i₀ i = n - i
+
+loop-holds : tie.Need-loop-holds Inv-loop μ-loop
+loop-holds c =
+    let long : length (c .args .t1) ≡ 16 = search needs in
+    test-first hasRange (c .args .t1) (c .args .n) (omega arith)
 
 returns : tie.Need-returns Inv-loop μ-loop
-returns c =
-    let s = c .before .before .before .before .before in
-    let i = c .before .before .before .before .loop .i in
-    let long : length (s .args .t1) ≡ 16 = search needs in
-    let n : length (take (s .args .n) (s .args .t1)) ≡ s .args .n = length-take-le (s .args .n) (s .args .t1) (omega arith) in
-    sym (loop-fails hasRange noTimer (take (s .args .n) (s .args .t1)) _ i (c .before .before .before .before .loop .inv .1) (omega arith)
-    (ap hasRange (getD-take (s .args .n) (s .args .t1) i noTimer (omega arith)) ∙ sym (c .before .in-range .ensures) ∙ not-true _ (c .if1 .taken)))
+returns c = let l = c .before .before .before .before .loop in test-fails noTimer (l .inv) _ (omega arith) (c .before .in-range .ensures) (c .if1 .taken)
 
 loop-again : tie.Need-loop-again Inv-loop μ-loop
-loop-again c =
-    let s = c .before .before .before .before .before in
-    let i = c .before .before .before .before .loop .i in
-    let long : length (s .args .t1) ≡ 16 = search needs in
-    let n : length (take (s .args .n) (s .args .t1)) ≡ s .args .n = length-take-le (s .args .n) (s .args .t1) (omega arith) in (
-      omega arith,
-      loop-next hasRange noTimer (take (s .args .n) (s .args .t1)) _ i (c .before .before .before .before .loop .inv .1) (omega arith)
-          (ap hasRange (getD-take (s .args .n) (s .args .t1) i noTimer (omega arith)) ∙ sym (c .before .in-range .ensures) ∙ not-false _ (c .if1 .left)),
-    )
-
-returns-2 : tie.Need-returns-2 Inv-loop μ-loop
-returns-2 c =
-    let s = c .before .before in
-    let long : length (s .args .t1) ≡ 16 = search needs in
-    let n : length (take (s .args .n) (s .args .t1)) ≡ s .args .n = length-take-le (s .args .n) (s .args .t1) (omega arith) in
-    sym (loop-ends hasRange noTimer (take (s .args .n) (s .args .t1)) _ (c .before .loop .i) (c .before .loop .inv .1) (omega arith))
+loop-again c = let l = c .before .before .before .before .loop in test-next noTimer (l .inv) _ (omega arith) (c .before .in-range .ensures) (c .if1 .left)
 
 pub all-in-range-spec : {M : Type 1} → statement M
 all-in-range-spec =
@@ -52,7 +34,7 @@ all-in-range-spec =
     (tie.spec
     Inv-loop
     μ-loop
-    (λ c. (omega arith, refl))
+    loop-holds
     (λ c. search needs)
     (λ c. search needs)
     (λ c κs. search needs)
@@ -60,4 +42,4 @@ all-in-range-spec =
     (λ c. search needs)
     (λ c. search needs)
     loop-again
-    returns-2)
+    (λ c. test-ends noTimer (c .before .loop .inv) (omega arith)))

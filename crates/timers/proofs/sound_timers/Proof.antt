@@ -1,17 +1,17 @@
 -- `timers::sound_timers` meets its contract: each clause in its turn, read off the declared row.
 -- Assumes nothing.
-use mathlib.Core.Path.{_≡_, refl, ap, sym, _∙_}
-use mathlib.Core.Bool.{Bool, true, false, _&&_}
-use mathlib.Core.List.{List, map}
+use mathlib.Core.Path.{_≡_, ap, sym, _∙_}
+use mathlib.Core.Bool.{_&&_}
+use mathlib.Core.List.{map}
 use lib.Dec.{leb}
 use lib.ListN.{take, drop}
 use borrow.Author.Needs.{needs}
-use borrow.Author.Tests.{not-true, not-false, le-leb, lt-leb}
+use borrow.Author.Tests.{le-leb, lt-leb}
 use Rattle.address.specs.Here.{Addr, here}
 use Rattle.model.specs.Rows.{every}
 use Rattle.model.specs.Words as W
 use Rattle.model.specs.Sound.{isNoTimer, soundTimers}
-use Rattle.laws.specs.Bools.{every-map, take-map, drop-map, first-of-three, second-of-three, third-of-three}
+use Rattle.laws.specs.Bools.{every-map, take-map, drop-map}
 use Rattle.timers.specs.declared.Timers.{Timers}
 use Rattle.timers.specs.Views.{toTimer, rowView, hasRange, isEmptyPlace}
 use Rattle.timers.proofs.sound_timers.Statement.{statement}
@@ -28,20 +28,14 @@ clauses t =
     sym (rw (a, b))
 
 returns : tie.Need-returns
-returns c = let t = c .before .before .args .timers in first-of-three _ _ _ (lt-leb (t .len) 16 (c .if1 .taken)) ∙ clauses t
+returns c = let t = c .before .before .args .timers in sym (rw (lt-leb (t .len) 16 (c .if1 .taken))) ∙ clauses t
 
 returns-2 : tie.Need-returns-2
 returns-2 c =
-    let d = c .before .before in
-    let t = d .before .before .args .timers in
-    second-of-three _ _ _ (le-leb (t .len) 16 (d .if1 .left)) (sym (c .before .all-in-range .ensures) ∙ not-true _ (c .if2 .taken)) ∙ clauses t
-
-returns-3 : tie.Need-returns-3
-returns-3 c =
     let e = c .before in
     let d = e .before .before in
     let t = d .before .before .args .timers in
-    c .all-empty .ensures ∙ third-of-three _ _ _ (le-leb (t .len) 16 (d .if1 .left)) (sym (e .before .all-in-range .ensures) ∙ not-false _ (e .if2 .left)) ∙ clauses t
+    rw (c .both .ensures, e .all-empty .ensures, e .before .all-in-range .ensures) (sym (rw (le-leb (t .len) 16 (d .if1 .left))) ∙ clauses t)
 
 pub sound-timers-spec : {M : Type 1} → statement M
-sound-timers-spec = tie.close (tie.spec returns (λ c κs. search needs) returns-2 (λ c κs. search needs) returns-3)
+sound-timers-spec = tie.close (tie.spec returns (λ c κs. search needs) (λ c κs. search needs) (λ c κs. search needs) returns-2)

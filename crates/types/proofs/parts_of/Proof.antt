@@ -18,23 +18,23 @@ none blank = record { kind = 0; from = blank; subject = blank; number = 0 }
 
 returns : tie.Need-returns
 unfolding partsOf
-returns c = ap none (c .before .before .blank .ensures) ∙ sym (ap parts (c .enum-told .given .1))
+returns c = c .of .ensures ∙ ap none (c .before .before .before .blank .ensures) ∙ sym (ap parts (c .before .enum-told .given .1))
 
 returns-2 : tie.Need-returns-2
 unfolding partsOf
-returns-2 c = sym (ap parts (c .before .e .given .1))
+returns-2 c = c .of2 .ensures ∙ sym (ap parts (c .before .before .e .given .1))
 
 returns-3 : tie.Need-returns-3
 unfolding partsOf
-returns-3 c = sym (ap parts (c .before .e2 .given .1))
+returns-3 c = c .of3 .ensures ∙ sym (ap parts (c .before .before .e2 .given .1))
 
 returns-4 : tie.Need-returns-4
 unfolding partsOf
-returns-4 c = sym (ap parts (c .before .e3 .given .1))
+returns-4 c = c .of4 .ensures ∙ sym (ap parts (c .before .before .e3 .given .1))
 
 returns-5 : tie.Need-returns-5
 unfolding partsOf
-returns-5 c = sym (ap parts (c .before .e4 .given .1))
+returns-5 c = c .of5 .ensures ∙ sym (ap parts (c .before .before .e4 .given .1))
 
 pub parts-of-spec : {M : Type 1} → statement M
 parts-of-spec =
@@ -42,10 +42,15 @@ parts-of-spec =
     (tie.spec
     (λ c κs. search needs)
     (λ c. search needs)
+    (λ c κs. search needs)
     (λ c. search needs)
+    (λ c κs. search needs)
     (λ c. search needs)
+    (λ c κs. search needs)
     (λ c. search needs)
+    (λ c κs. search needs)
     (λ c. search needs)
+    (λ c κs. search needs)
     returns
     returns-2
     returns-3

@@ -1,21 +1,34 @@
 -- `types::size_of` meets its contract: the size by the parts of the event.
 -- Assumes nothing.
-use native.Mathlib.Omega.{arith}
+use mathlib.Core.Path.{_≡_, ap, sym, _∙_}
 use borrow.Author.Needs.{needs}
-use Rattle.types.proofs.Measuring.{size-none, size-some}
+use borrow.Author.Tests.{eq-eqb, ne-eqb}
+use Rattle.address.specs.Here.{here}
+use Rattle.model.specs.Words.{partsOf}
+use Rattle.model.specs.Size.{sizeOf}
+use Rattle.types.specs.declared.Gossip.{Gossip}
+use Rattle.types.specs.declared.Parts.{Parts}
+use Rattle.types.specs.SizeLaws.{partsSize, size-by-parts}
+use Rattle.types.specs.Views.{toEvent, toGossip, fromParts, toParts}
 use Rattle.types.proofs.size_of.Statement.{statement}
 use Rattle.types.proofs.size_of.Tie as tie
+
+by-parts : (g : Gossip) (p : Parts) → p ≡ fromParts (partsOf here (toEvent (g .event))) → partsSize here (toParts p) ≡ sizeOf here (toGossip g)
+by-parts g p e = ap (λ (x : Parts). partsSize here (toParts x)) e ∙ sym (size-by-parts here (toGossip g))
 
 returns : tie.Need-returns
 returns c =
     let d = c .before .before in
-    (size-none (d .before .args .g) _ (d .parts-of .ensures) (c .if1 .taken), search needs)
+    (sym (rw (eq-eqb _ _ (c .if1 .taken))) ∙ by-parts (d .before .args .g) _ (d .parts-of .ensures), search needs)
 
 returns-2 : tie.Need-returns-2
 returns-2 c =
-    let e = c .before .before .before in
+    let b = c .before in
+    let e = b .before .before in
     let d = e .before .before in (
-      size-some (d .before .args .g) _ (d .parts-of .ensures) _ _ _ (e .if1 .left) (c .before .before .text-len .ensures .0) (c .before .text-len2 .ensures .0) (c .number-size .ensures .0),
+      c .size-over .ensures .0
+          ∙ rw (b .before .text-len .ensures .0, b .text-len2 .ensures .0)
+          (sym (rw (ne-eqb _ _ (e .if1 .left))) ∙ by-parts (d .before .args .g) _ (d .parts-of .ensures)),
       search needs,
     )
 
@@ -27,10 +40,5 @@ size-of-spec =
     returns
     (λ c κs. search needs)
     (λ c κs. search needs)
-    (λ c. search needs)
-    (λ c. search needs)
-    (λ c. search needs)
-    (λ c. search needs)
     (λ c κs. search needs)
-    (λ c. search needs)
     returns-2)

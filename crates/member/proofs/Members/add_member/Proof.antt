@@ -23,14 +23,14 @@ returns-2 c =
 
 insert-requires : tie.Need-insert-requires
 insert-requires c κs =
-    let a = c .before .before .before .before .before .args in
+    let a = c .before .before .before .before .before .before .before .args in
     (omega arith, omega (arith, mod-lt (getD (a .draws .now) (a .from) 0) {m = a .self .len + 1} (omega arith)))
 
 returns-3 : tie.Need-returns-3
 returns-3 c =
-    let s = c .before .before .before .before .before .before .before in
+    let s = c .before .before .before .before .before .before .before .before in
     let a = s .args in
-    kept-added (a .self) (s .pre .0 .packed) (a .a) (a .number) (a .draws .now) (a .from) (c .before .insert .result) (omega arith) (omega arith) (c .before .insert .ensures)
+    kept-added (a .self) (s .pre .0 .packed) (a .a) (a .number) (a .draws .now) (a .from) (c .insert .result) (omega arith) (omega arith) (c .insert .ensures)
 
 pub add-member-spec : {M : Type 1} → statement M
 add-member-spec =
@@ -42,8 +42,8 @@ add-member-spec =
     (λ c. search needs)
     (λ c. search needs)
     (λ c. search needs)
+    (λ c. search needs)
+    (λ c. search needs)
+    (λ c. search needs)
     insert-requires
-    (λ c. search needs)
-    (λ c. search needs)
-    (λ c. search needs)
     returns-3)

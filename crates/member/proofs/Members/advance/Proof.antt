@@ -6,14 +6,14 @@ use Rattle.member.proofs.Members.advance.Tie as tie
 
 advance-requires : tie.Need-advance-requires
 advance-requires c κs =
-    let s = c .before .before in
+    let s = c .before in
     (order-ready (s .args .self) (s .pre .0), s .pre .1, s .pre .2)
 
 returns : tie.Need-returns
 returns c =
-    let s = c .before .before .before .before .before .before in
+    let s = c .before .before .before .before in
     let a = s .args in
-    advanced-is (a .self) (s .pre .0) (a .draws .now) (a .from) (c .before .before .before .advance .result) (s .pre .1) (c .before .before .before .advance .ensures)
+    advanced-is (a .self) (s .pre .0) (a .draws .now) (a .from) (c .before .before .advance .result) (s .pre .1) (c .before .before .advance .ensures)
 
 pub advance-spec : {M : Type 1} → statement M
 advance-spec =

@@ -1,21 +1,20 @@
 -- `member::Members::get_member_list` meets its contract: the order is probed, the table stands aside.
 -- Assumes nothing.
 use Rattle.member.proofs.Probing.{order-ready, picked-is}
-use borrow.Author.Needs.{needs}
 use Rattle.member.proofs.Members.get_member_list.Statement.{statement}
 use Rattle.member.proofs.Members.get_member_list.Tie as tie
 
 pick-requires : tie.Need-pick-requires
 pick-requires c κs =
-    let s = c .before .before in
+    let s = c .before in
     (order-ready (s .args .self) (s .pre .0), s .pre .1, s .pre .2)
 
 returns : tie.Need-returns
 returns c =
-    let s = c .before .before .before .before .before .before .before in
+    let s = c .before .before .before .before .before in
     let a = s .args in
     picked-is (a .self) (s .pre .0) (a .own) (a .exclusion) (a .wanted) (a .draws .now) (a .from)
-    (c .before .before .before .before .pick .result) (c .before .before .before .before .pick .ensures .0)
+    (c .before .before .before .pick .result) (c .before .before .before .pick .ensures .0)
 
 pub get-member-list-spec : {M : Type 1} → statement M
 get-member-list-spec =

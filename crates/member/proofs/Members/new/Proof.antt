@@ -14,9 +14,8 @@ returns c =
     let a = c .before .before .args in
     λ i. record {
       table = record { addr = a .own; state = Alive; number = a .number } ∷ replicate 63 (c .before .none .ensures i);
-      order = a .own ∷ replicate 63 (c .blank .ensures i);
       len = 1;
-      position = 0;
+      order = record { row = a .own ∷ replicate 63 (c .blank .ensures i); position = 0 };
     }
 
 pub new-spec : {M : Type 1} → statement M

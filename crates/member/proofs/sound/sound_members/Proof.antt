@@ -19,44 +19,44 @@ use Rattle.member.proofs.sound.sound_members.Tie as tie
 few : (c : tie.Else1) → leb (c .before .args .m .len) 64 ≡ true
 few c = le-leb (c .before .args .m .len) 64 (c .if1 .left)
 
-placed : (c : tie.Else2) → positioned (c .before .before .before .args .m .position) (c .before .before .before .args .m .len) ≡ true
+placed : (c : tie.Else2) → positioned (c .before .before .before .before .args .m .order .position) (c .before .before .before .before .args .m .len) ≡ true
 placed c = sym (c .before .well-placed .ensures) ∙ not-false _ (c .if2 .left)
 
 -- the row is that of the addresses
 ranged : (c : tie.After-all-in-range)
-    → every (here .valid) (take (c .before .before .before .before .before .before .before .args .m .len) (map addrOf (c .before .before .before .before .before .before .before .args .m .table)))
+    → every (here .valid) (take (c .before .before .before .before .before .before .before .before .args .m .len) (map addrOf (c .before .before .before .before .before .before .before .before .args .m .table)))
     ≡ c .all-in-range .result
 ranged c =
-    let m = c .before .before .before .before .before .before .before .args .m in
+    let m = c .before .before .before .before .before .before .before .before .args .m in
     ap (λ (r : List Addr). every (here .valid) (take (m .len) r)) (sym (c .before .addresses .ensures)) ∙ sym (c .all-in-range .ensures)
 
 returns : tie.Need-returns
 returns c =
     let m = c .before .args .m in
-    stops-1 _ _ _ _ _ _ (lt-leb (m .len) 64 (c .if1 .taken)) ∙ sym (sound-parts (m .table) (m .order) (m .len) (m .position))
+    stops-1 _ _ _ _ _ _ (lt-leb (m .len) 64 (c .if1 .taken)) ∙ sym (sound-parts (m .table) (m .order .row) (m .len) (m .order .position))
 
 returns-2 : tie.Need-returns-2
 returns-2 c =
-    let m = c .before .before .before .args .m in
-    stops-2 _ _ _ _ _ _ (few (c .before .before)) (sym (c .before .well-placed .ensures) ∙ not-true _ (c .if2 .taken))
-    ∙ sym (sound-parts (m .table) (m .order) (m .len) (m .position))
+    let m = c .before .before .before .before .args .m in
+    stops-2 _ _ _ _ _ _ (few (c .before .before .before)) (sym (c .before .well-placed .ensures) ∙ not-true _ (c .if2 .taken))
+    ∙ sym (sound-parts (m .table) (m .order .row) (m .len) (m .order .position))
 
 returns-3 : tie.Need-returns-3
 returns-3 c =
     let r = c .before in
     let p = r .before .before .before .before in
-    let m = p .before .before .before .args .m in
-    stops-3 _ _ _ _ _ _ (few (p .before .before)) (placed p) (ranged r ∙ not-true _ (c .if3 .taken))
-    ∙ sym (sound-parts (m .table) (m .order) (m .len) (m .position))
+    let m = p .before .before .before .before .args .m in
+    stops-3 _ _ _ _ _ _ (few (p .before .before .before)) (placed p) (ranged r ∙ not-true _ (c .if3 .taken))
+    ∙ sym (sound-parts (m .table) (m .order .row) (m .len) (m .order .position))
 
 returns-4 : tie.Need-returns-4
 returns-4 c =
     let t = c .before in
     let r = t .before .before in
     let p = r .before .before .before .before in
-    let m = p .before .before .before .args .m in
-    stops-4 _ _ _ _ _ _ (few (p .before .before)) (placed p) (ranged r ∙ not-false _ (t .before .if3 .left)) (sym (t .table-ends .ensures) ∙ not-true _ (c .if4 .taken))
-    ∙ sym (sound-parts (m .table) (m .order) (m .len) (m .position))
+    let m = p .before .before .before .before .args .m in
+    stops-4 _ _ _ _ _ _ (few (p .before .before .before)) (placed p) (ranged r ∙ not-false _ (t .before .if3 .left)) (sym (t .table-ends .ensures) ∙ not-true _ (c .if4 .taken))
+    ∙ sym (sound-parts (m .table) (m .order .row) (m .len) (m .order .position))
 
 returns-5 : tie.Need-returns-5
 returns-5 c =
@@ -64,10 +64,10 @@ returns-5 c =
     let t = o .before .before in
     let r = t .before .before in
     let p = r .before .before .before .before in
-    let m = p .before .before .before .args .m in
-    stops-5 _ _ _ _ _ _ (few (p .before .before)) (placed p) (ranged r ∙ not-false _ (t .before .if3 .left))
+    let m = p .before .before .before .before .args .m in
+    stops-5 _ _ _ _ _ _ (few (p .before .before .before)) (placed p) (ranged r ∙ not-false _ (t .before .if3 .left))
     (sym (t .table-ends .ensures) ∙ not-false _ (o .before .if4 .left)) (sym (o .order-ends .ensures) ∙ not-true _ (c .if5 .taken))
-    ∙ sym (sound-parts (m .table) (m .order) (m .len) (m .position))
+    ∙ sym (sound-parts (m .table) (m .order .row) (m .len) (m .order .position))
 
 returns-6 : tie.Need-returns-6
 returns-6 c =
@@ -76,11 +76,11 @@ returns-6 c =
     let t = o .before .before in
     let r = t .before .before in
     let p = r .before .before .before .before in
-    let m = p .before .before .before .args .m in
-    sound-last m (c .matches .result) (few (p .before .before)) (placed p) (ranged r ∙ not-false _ (t .before .if3 .left))
+    let m = p .before .before .before .before .args .m in
+    sound-last m (c .matches .result) (few (p .before .before .before)) (placed p) (ranged r ∙ not-false _ (t .before .if3 .left))
     (sym (t .table-ends .ensures) ∙ not-false _ (o .before .if4 .left)) (sym (o .order-ends .ensures) ∙ not-false _ (e .if5 .left))
     (c .matches .ensures
-    ∙ ap (λ (x : List Addr). distinct (here .same) (take (m .len) x) && permutes (here .same) (take (m .len) (m .order)) (take (m .len) x)) (r .before .addresses .ensures))
+    ∙ ap (λ (x : List Addr). distinct (here .same) (take (m .len) x) && permutes (here .same) (take (m .len) (m .order .row)) (take (m .len) x)) (r .before .addresses .ensures))
 
 pub sound-members-spec : {M : Type 1} → statement M
 sound-members-spec =

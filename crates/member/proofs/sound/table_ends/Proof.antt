@@ -1,56 +1,45 @@
 -- `member::sound::table_ends` meets its contract: each place from n to i has passed.
 -- Assumes nothing.
-use mathlib.Core.Path.{_≡_, ap, sym, _∙_}
+use mathlib.Core.Path.{_≡_, ap, sym, _∙_, subst}
+use mathlib.Core.Bool.{Bool}
 use mathlib.Core.List.{map}
-use Prim.Native.Nat.{_-_, _≤_}
+use Prim.Native.Nat.{_-_}
 use native.Mathlib.Omega.{arith}
-use lib.ListN.{length, length-map, List·getD-map}
+use lib.ListN.{length, drop}
 use Rattle.address.specs.Here.{here}
-use Rattle.model.specs.Words.{noMember}
+use Rattle.model.specs.Rows.{every}
 use Rattle.model.specs.Sound.{isNoMember}
-use Rattle.laws_list.specs.Checks.{Checked, check-start, check-fails, check-next, check-end}
+use Rattle.laws.specs.Bools.{every-map, drop-map}
+use Rattle.laws.specs.Loops.{Tested, test-from, test-fails, test-next, test-ends}
+use Rattle.member.specs.declared.Member.{Member}
 use Rattle.member.specs.Views.{toMember, nobody}
-use borrow.Author.Tests.{not-true, not-false}
 use borrow.Author.Needs.{needs}
 use Rattle.member.proofs.sound.table_ends.Statement.{statement}
 use Rattle.member.proofs.sound.table_ends.Tie as tie
 
+abbrev unused : Member → Bool
+unused m = isNoMember here (toMember m)
+
 abbrev Inv-loop : tie.InvT-loop
-Inv-loop n table i₀ i = (i ≤ 64) × Checked (isNoMember here) (map toMember table) n i
+Inv-loop n table i₀ i = Tested unused table 64 (every (isNoMember here) (drop n (map toMember table))) i
 
 abbrev μ-loop : tie.MeasureT-loop
 μ-loop n table i₀ i = 64 - i
 
 loop-holds : tie.Need-loop-holds Inv-loop μ-loop
-loop-holds c = (search needs, check-start (isNoMember here) (map toMember (c .args .t1)) (c .args .n))
+loop-holds c =
+    let t = c .args .t1 in
+    let n = c .args .n in
+    let long : length t ≡ 64 = search needs in
+    subst (λ (b : Bool). Tested unused t 64 b n)
+    (sym (ap (every (isNoMember here)) (drop-map toMember n t) ∙ every-map (isNoMember here) toMember (drop n t)))
+    (test-from unused t 64 n long (omega arith))
 
 returns : tie.Need-returns Inv-loop μ-loop
-returns c =
-    let a = c .before .before .before .before .before .args in
-    let l = c .before .before .before .before .loop in
-    let hl : length (a .t1) ≡ 64 = search needs in
-    let n : length (map toMember (a .t1)) ≡ 64 = length-map (a .t1) toMember ∙ hl in
-    check-fails (isNoMember here) (noMember here) (map toMember (a .t1)) (a .n) (l .i) (l .inv .1) (omega arith)
-    (ap (isNoMember here) (List·getD-map toMember (a .t1) (l .i) nobody) ∙ sym (c .before .is-unused .ensures) ∙ not-true _ (c .if1 .taken))
+returns c = let l = c .before .before .before .before .loop in test-fails nobody (l .inv) _ (omega arith) (c .before .is-unused .ensures) (c .if1 .taken)
 
 loop-again : tie.Need-loop-again Inv-loop μ-loop
-loop-again c =
-    let a = c .before .before .before .before .before .args in
-    let l = c .before .before .before .before .loop in
-    let hl : length (a .t1) ≡ 64 = search needs in
-    let n : length (map toMember (a .t1)) ≡ 64 = length-map (a .t1) toMember ∙ hl in (
-      omega arith,
-      check-next (isNoMember here) (noMember here) (map toMember (a .t1)) (a .n) (l .i) (l .inv .1) (omega arith)
-          (ap (isNoMember here) (List·getD-map toMember (a .t1) (l .i) nobody) ∙ sym (c .before .is-unused .ensures) ∙ not-false _ (c .if1 .left)),
-    )
-
-returns-2 : tie.Need-returns-2 Inv-loop μ-loop
-returns-2 c =
-    let a = c .before .before .args in
-    let l = c .before .loop in
-    let hl : length (a .t1) ≡ 64 = search needs in
-    let n : length (map toMember (a .t1)) ≡ 64 = length-map (a .t1) toMember ∙ hl in
-    check-end (isNoMember here) (map toMember (a .t1)) (a .n) (l .i) (l .inv .1) (omega arith)
+loop-again c = let l = c .before .before .before .before .loop in test-next nobody (l .inv) _ (omega arith) (c .before .is-unused .ensures) (c .if1 .left)
 
 pub table-ends-spec : {M : Type 1} → statement M
 table-ends-spec =
@@ -66,4 +55,4 @@ table-ends-spec =
     (λ c. search needs)
     (λ c. search needs)
     loop-again
-    returns-2)
+    (λ c. test-ends nobody (c .before .loop .inv) (omega arith)))

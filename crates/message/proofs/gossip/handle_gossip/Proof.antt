@@ -9,23 +9,26 @@ use mir.Syntax.{w64}
 use lib.ListN.{length, drop}
 use borrow.Author.Needs.{needs}
 use Rattle.address.specs.Here.{Addr, here}
+use Rattle.model.specs.declared.Kind.{Kind}
+use Rattle.model.specs.declared.Kind.the-variants as kind
 use Rattle.model.specs.Answers.{Answer}
 use Rattle.model.specs.Words as W
 use Rattle.model.specs.Node as M
 use Rattle.model.specs.Handler as handler
 use Rattle.types.specs.Views.{toOptional}
+use Rattle.heap.specs.declared.Heap.{Heap}
 use Rattle.heap.specs.Views.{heapView}
 use Rattle.member.specs.declared.Members.{Members}
 use Rattle.member.specs.Views.{viewMembers}
-use Rattle.disseminate.specs.declared.Disseminator.{Disseminator}
+use Rattle.disseminate.specs.Views.{ofKind}
 use Rattle.node.specs.declared.Node.{Node}
 use Rattle.node.specs.Views.{viewNode, withMembers, withDisseminator}
 use Rattle.rules.specs.declared.Verdict.{Verdict}
 use Rattle.rules.specs.Views.{toVerdict, toNews, to-from-verdict, to-from-news, listAfterOf}
 use Rattle.message.specs.declared.gossip.Lent.{Lent}
 use Rattle.message.specs.declared.gossip.Report.{Report}
-use Rattle.message.specs.Views.{recordsOf, senderRule, verdictAt, toldOf, noted, heardOf}
-use Rattle.message.specs.Acting.{act-refused, drawn-within, act-full, act-done}
+use Rattle.message.specs.Views.{recordsOf, senderRule, verdictAt, RoomFor, findsFull, toldTo, noted, heardOf}
+use Rattle.message.specs.Acting.{room-for, act-refused, drawn-within, act-full, act-done}
 use Rattle.message.specs.Hearing.{Sofar, ahead, turn, turn-keeps, records-long, noted-few, sofar-start, sofar-next, sofar-over, sofar-refused, sofar-more, sofar-ends}
 use Rattle.message.proofs.gossip.handle_gossip.Statement.{statement}
 use Rattle.message.proofs.gossip.handle_gossip.Tie as tie
@@ -37,45 +40,45 @@ abbrev whole : Node → Lent → List ℕ → Answer (M.Out Addr)
 whole n l draws = M.andMore (handler.gossip here (records l) (viewNode n) draws) (senderRule (toOptional (l .sender)))
 
 -- the node with the list and the news so far
-abbrev current : Node → Members → Disseminator → Node
-current n m d = withDisseminator (withMembers n m) d
+abbrev current : Node → Members → Heap → Heap → Node
+current n m a d = withDisseminator (withMembers n m) (record { alive = a; deceased = d })
 
 abbrev Inv-loop : tie.InvT-loop
-Inv-loop node lent draws members₀ disseminator₀ report₀ used₀ i₀ members disseminator report used i =
-    (i ≤ lent .given + 1) × (report .count ≤ i) × Sofar (whole node lent draws) (ahead (toOptional (lent .sender)) (records lent) i) draws used (current node members disseminator) report
+Inv-loop node lent draws members₀ alive₀ deceased₀ report₀ used₀ i₀ members alive deceased report used i =
+    (i ≤ lent .given + 1) × (report .count ≤ i) × Sofar (whole node lent draws) (ahead (toOptional (lent .sender)) (records lent) i) draws used (current node members alive deceased) report
 
 abbrev μ-loop : tie.MeasureT-loop
-μ-loop node lent draws members₀ disseminator₀ report₀ used₀ i₀ members disseminator report used i = lent .given + 1 - i
+μ-loop node lent draws members₀ alive₀ deceased₀ report₀ used₀ i₀ members alive deceased report used i = lent .given + 1 - i
 
 loop-holds : tie.Need-loop-holds Inv-loop μ-loop
 loop-holds c =
-    let s = c .before .before .before .before in
+    let s = c .before .before .before .before .before .before in
     let a = s .args in (
       omega arith,
-      omega arith,
-      rw (c .no-events .ensures) (sofar-start (whole (a .node) (a .lent) (a .draws .now)) (a .draws .now) (a .node) (ahead (toOptional (a .lent .sender)) (records (a .lent)) 0) (s .pre .0) refl),
+      omega (arith, ap (λ (x : Report). x .count) (c .no-report .ensures)),
+      rw (c .no-report .ensures) (sofar-start (whole (a .node) (a .lent) (a .draws .now)) (a .draws .now) (a .node) (ahead (toOptional (a .lent .sender)) (records (a .lent)) 0) (s .pre .0) refl),
     )
 
 many : (s : tie.Start Inv-loop μ-loop) → length (records (s .args .lent)) ≡ s .args .lent .given
 many s = records-long (s .args .lent .rows) (s .args .lent .given) (s .pre .1)
 
-is-due : (c : tie.Then1 Inv-loop μ-loop) → c .before .before .loop .i ≤ c .before .before .before .before .before .before .before .args .lent .given
+is-due : (c : tie.Then1 Inv-loop μ-loop) → c .before .before .loop .i ≤ c .before .before .before .before .before .before .before .before .before .args .lent .given
 is-due c = omega (arith, c .if1 .taken)
 
 verdict-at-requires : tie.Need-verdict-at-requires Inv-loop μ-loop
 verdict-at-requires c κs =
     let r = c .before .before .loop .inv .2 .ready in
-    (r .members, r .heaps .deceased, c .before .before .before .before .before .before .before .pre .1)
+    (r .members, r .heaps .deceased, c .before .before .before .before .before .before .before .before .before .pre .1)
 
 -- where a call starts, and the loop as a verdict is given
 abbrev start : tie.After-verdict-at Inv-loop μ-loop → tie.Start Inv-loop μ-loop
-start v = v .before .before .before .before .before .before .before .before
+start v = v .before .before .before .before .before .before .before .before .before .before
 
 abbrev all : tie.After-verdict-at Inv-loop μ-loop → Answer (M.Out Addr)
 all v = let a = start v .args in whole (a .node) (a .lent) (a .draws .now)
 
 abbrev reached : tie.After-verdict-at Inv-loop μ-loop → Node
-reached v = let at = v .before .before .before .loop in current (start v .args .node) (at .members) (at .disseminator)
+reached v = let at = v .before .before .before .loop in current (start v .args .node) (at .members) (at .alive) (at .deceased)
 
 room : (v : tie.After-verdict-at Inv-loop μ-loop) → v .before .before .before .loop .report .count < 65
 room v = omega (arith, is-due (v .before), v .before .before .before .loop .inv .1, start v .pre .1 .few)
@@ -85,7 +88,7 @@ abbrev verdict : tie.After-verdict-at Inv-loop μ-loop → handler.Verdict Addr
 verdict v =
     let a = start v .args in
     let at = v .before .before .before .loop in
-    verdictAt (a .node .own) (viewMembers (at .members) .table) (heapView (at .disseminator .deceased)) (records (a .lent)) (toOptional (a .lent .sender)) (at .i)
+    verdictAt (a .node .own) (viewMembers (at .members) .table) (heapView (at .deceased)) (records (a .lent)) (toOptional (a .lent .sender)) (at .i)
 
 abbrev rule : tie.After-verdict-at Inv-loop μ-loop → M.Node Addr → List ℕ → Answer (M.Out Addr)
 rule v = let a = start v .args in turn (toOptional (a .lent .sender)) (records (a .lent)) (v .before .before .before .loop .i)
@@ -116,10 +119,15 @@ is-news w =
     let own = start v .args .node .own in
     ap toNews (w .news-of .ensures) ∙ to-from-news (handler.newsOf here (toVerdict (v .verdict-at .result)) own) ∙ ap (λ (x : handler.Verdict Addr). handler.newsOf here x own) (is-verdict v)
 
-is-told : (t : tie.After-tell Inv-loop μ-loop) → let v = t .before .before .before .before .before .before in t .tell .result ≡ toldOf (v .before .before .before .loop .disseminator) (handler.newsOf here (verdict v) (start v .args .node .own))
-is-told t =
-    let v = t .before .before .before .before .before .before in
-    t .tell .ensures ∙ ap (toldOf (v .before .before .before .loop .disseminator)) (is-news (t .before))
+abbrev news : tie.After-verdict-at Inv-loop μ-loop → handler.News Addr
+news v = handler.newsOf here (verdict v) (start v .args .node .own)
+
+-- is the heap full that the news goes to
+is-full : (f : tie.After-finds-full Inv-loop μ-loop) → let v = f .before .before .before .before .before .before in let at = v .before .before .before .loop in f .finds-full .result ≡ findsFull (news v) (at .alive .len) (at .deceased .len)
+is-full f =
+    let v = f .before .before .before .before .before .before in
+    let at = v .before .before .before .loop in
+    f .finds-full .ensures ∙ ap (λ (w : handler.News Addr). findsFull w (at .alive .len) (at .deceased .len)) (is-news (f .before))
 
 -- a lent row's length is a number of the machine
 fits : (s : tie.Start Inv-loop μ-loop) → Fits w64 (length (s .args .draws .now))
@@ -158,13 +166,19 @@ returns-2 c =
     let v = l .before in
     let a = start v .args in
     let at = v .before .before .before .loop in
-    let e = act-full (reached v) (at .inv .2 .ready) (verdict v) (a .draws .now) (at .used) (at .inv .2 .within) (l .list-after .result) (is-list l) (d .drew .given .0 .0) (d .drew .given .1) (t .tell .result) (is-told t) (f .if2 .taken) in
+    let e = act-full (reached v) (at .inv .2 .ready) (verdict v) (a .draws .now) (at .used) (at .inv .2 .within) (l .list-after .result) (is-list l) (d .drew .given .0 .0) (d .drew .given .1) (sym (is-full t) ∙ f .if2 .taken) in
     c .refused2 .ensures ∙ sym (ap (heardOf (a .node) (a .draws .now)) (sofar-refused (all v) (a .draws .now) (reached v) (at .report) (at .used) (rule v) (after v) (due v) _ e))
+
+abbrev told : tie.Else2 Inv-loop μ-loop → tie.After-verdict-at Inv-loop μ-loop
+told f = f .before .before .before .before .before .before .before
+
+has-room : (f : tie.Else2 Inv-loop μ-loop) (k : Kind) → let at = told f .before .before .before .loop in RoomFor k (toNews (f .before .before .news-of .result)) (ofKind k (at .alive .len) (at .deceased .len))
+has-room f k = let at = told f .before .before .before .loop in room-for (toNews (f .before .before .news-of .result)) k (at .alive .len) (at .deceased .len) (sym (f .before .finds-full .ensures) ∙ f .if2 .left)
 
 loop-again : tie.Need-loop-again Inv-loop μ-loop
 unfolding viewNode
 loop-again c =
-    let f = c .before .before .before in
+    let f = c .before .before .before .before in
     let t = f .before in
     let d = t .before .before .before in
     let l = d .before .before in
@@ -172,24 +186,26 @@ loop-again c =
     let s = start v in
     let a = s .args in
     let at = v .before .before .before .loop in
-    let w = handler.newsOf here (verdict v) (a .node .own) in
+    let w = news v in
     let n : c .note .result ≡ noted (at .report) w = c .note .ensures ∙ ap (noted (at .report)) (is-news (t .before)) in
+    let alive = c .before .before .tell .result in
+    let deceased = c .before .tell2 .result in
     let more = d .drew .given .0 .0 in
-    let acted = act-done (reached v) (at .inv .2 .ready) (verdict v) (a .draws .now) (at .used) (at .inv .2 .within) (l .list-after .result) (is-list l) more (d .drew .given .1) (t .tell .result) (is-told t) (f .if2 .left) in
+    let acted = act-done (reached v) (at .inv .2 .ready) (verdict v) (a .draws .now) (at .used) (at .inv .2 .within) (l .list-after .result) (is-list l) more (d .drew .given .1) alive deceased (c .before .before .tell .ensures ∙ ap (λ (x : handler.News Addr). toldTo kind.Alive x (at .alive)) (is-news (t .before))) (c .before .tell2 .ensures ∙ ap (λ (x : handler.News Addr). toldTo kind.Deceased x (at .deceased)) (is-news (t .before))) (sym (is-full t) ∙ f .if2 .left) in
     let keeps = turn-keeps (toOptional (a .lent .sender)) (records (a .lent)) (at .i) (viewNode (reached v)) (drop (at .used) (a .draws .now)) (at .inv .2 .ready .good) (s .pre .1 .valid) (s .pre .2) in (
       omega (arith, is-due (v .before)),
       omega (arith, ap (λ (x : Report). x .count) n, noted-few (at .report) w, at .inv .1),
-      rw n (sofar-more (all v) (a .draws .now) (reached v) (at .report) (at .used) (rule v) (after v) (due v) w (current (a .node) (l .list-after .result .members) (t .tell .result .disseminator)) (at .used + more) keeps (room v) acted),
+      rw n (sofar-more (all v) (a .draws .now) (reached v) (at .report) (at .used) (rule v) (after v) (due v) w (current (a .node) (l .list-after .result .members) alive deceased) (at .used + more) keeps (room v) acted),
     )
 
 returns-3 : tie.Need-returns-3 Inv-loop μ-loop
 returns-3 c =
     let e = c .before in
     let at = e .before .before .loop in
-    let s = e .before .before .before .before .before .before .before in
+    let s = e .before .before .before .before .before .before .before .before .before in
     let a = s .args in
     let all = whole (a .node) (a .lent) (a .draws .now) in
-    let n = current (a .node) (at .members) (at .disseminator) in
+    let n = current (a .node) (at .members) (at .alive) (at .deceased) in
     sofar-ends all (a .draws .now) (a .node) n (at .report) (at .used)
     (sofar-over (toOptional (a .lent .sender)) (records (a .lent)) all (a .draws .now) (at .used) (at .i) n (at .report) (at .inv .2) (omega (arith, many s, e .if1 .left)))
 
@@ -209,11 +225,13 @@ handle-gossip-spec =
     (λ c κs. search needs)
     returns
     (λ c κs. search needs)
-    (λ c κs. c .before .before .before .before .before .before .before .before .loop .inv .2 .ready .heaps)
+    (λ c κs. search needs)
     (λ c κs. search needs)
     returns-2
-    (λ c κs. room (c .before .before .before .before .before .before .before .before .before))
-    (λ c. let v = c .before .before .before .before .before .before .before .before .before .before in omega (arith, is-due (v .before), start v .pre .1 .few))
-    (λ c. omega (arith, is-due (c .before .before .before .before .before .before .before .before .before .before .before)))
+    (λ c κs. (told (c .before) .before .before .before .loop .inv .2 .ready .heaps .alive, has-room (c .before) kind.Alive))
+    (λ c κs. (told (c .before .before) .before .before .before .loop .inv .2 .ready .heaps .deceased, has-room (c .before .before) kind.Deceased))
+    (λ c κs. room (told (c .before .before .before)))
+    (λ c. let v = told (c .before .before .before .before) in omega (arith, is-due (v .before), start v .pre .1 .few))
+    (λ c. omega (arith, is-due (told (c .before .before .before .before) .before)))
     loop-again
     returns-3)

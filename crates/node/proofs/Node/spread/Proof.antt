@@ -9,7 +9,7 @@ use Rattle.model.specs.declared.Kind.the-variants as kind
 use Rattle.address.specs.Here.{here}
 use Rattle.model.specs.Limit.{limitOf}
 use Rattle.model.specs.Choose.{Terms, choose, termsOf}
-use Rattle.disseminate.specs.Fit.{at-most-58}
+use Rattle.disseminate.specs.Fit.{most-chosen, few-chosen}
 use Rattle.laws.specs.Ranges.{ranges}
 use Rattle.model.specs.Node as M
 use Rattle.member.specs.Packing.{view-many}
@@ -44,8 +44,8 @@ returns c =
     let many : n .members .len ≡ length (viewNode n .members .table) = sym (view-many (n .members) (r .members .packed)) in
     let e : g .get-gossip .result ≡ packChoice (choose here (terms (length (viewNode n .members .table))) (viewNode n .disseminator .alive) (viewNode n .disseminator .deceased)) =
     g .get-gossip .ensures ∙ ap (λ (k : ℕ). packChoice (choose here (terms k) (viewNode n .disseminator .alive) (viewNode n .disseminator .deceased))) many in
-    let few : length (choose here (terms (length (viewNode n .members .table))) (viewNode n .disseminator .alive) (viewNode n .disseminator .deceased) .chosen) ≤ 58 =
-    at-most-58 (terms (length (viewNode n .members .table))) (viewNode n .disseminator .alive) (viewNode n .disseminator .deceased) (size-1400 n r) (r .good .heaps kind.Alive) (r .good .heaps kind.Deceased) in (
+    let few : length (choose here (terms (length (viewNode n .members .table))) (viewNode n .disseminator .alive) (viewNode n .disseminator .deceased) .chosen) ≤ most-chosen =
+    few-chosen (terms (length (viewNode n .members .table))) (viewNode n .disseminator .alive) (viewNode n .disseminator .deceased) (size-1400 n r) (r .good .heaps kind.Alive) (r .good .heaps kind.Deceased) in (
       spread-is n r (choose here (terms (length (viewNode n .members .table))) (viewNode n .disseminator .alive) (viewNode n .disseminator .deceased)) (g .get-gossip .result) (c .with-disseminator .result) e (c .with-disseminator .ensures),
       omega (arith, ap (λ (k : Choice). k .chosen .count) e),
     )

@@ -10,7 +10,7 @@ returns c =
     let d = c .before .before in
     let a = d .before .before in
     let o = a .before .before in
-    let t = o .before .before in
+    let t = o .before .before .before in
     full-rows (t .before .before .before .before .before .before .before .args .node) (t .has-table .ensures) (o .has-order .ensures) (a .has-entries .ensures) (d .has-entries2 .ensures) (c .has-timers .ensures)
 
 pub has-rows-spec : {M : Type 1} → statement M

@@ -1,6 +1,6 @@
 -- `timers::Timers::start` meets its contract: a row with one more behind the last.
 -- Assumes nothing.
-use mathlib.Core.Path.{_≡_, refl, sym, _∙_}
+use mathlib.Core.Path.{_≡_, refl}
 use mathlib.Core.List.{[], _∷_, _++_}
 use Prim.Native.Nat.{_+_}
 use native.Mathlib.Omega.{arith}

@@ -1,0 +1,4 @@
+pub mod Drawing
+pub mod Pings
+pub mod Asking
+pub mod Requests

@@ -1,0 +1,165 @@
+-- A ping request: the heap is full, a draw is missing, or the group is asked.
+-- Assumes nothing.
+use mathlib.Core.Path.{_≡_, refl, ap, sym, _∙_}
+use mathlib.Core.Bool.{true, false}
+use mathlib.Core.List.{List, [], _∷_}
+use mathlib.Core.Option.{some}
+use Prim.Native.Nat.{ℕ, _≤_}
+use native.Mathlib.Omega.{arith}
+use lib.ListN.{length, take}
+use Rattle.model.specs.declared.State.the-variants as state
+use Rattle.model.specs.declared.Kind.the-variants as kind
+use Rattle.model.specs.declared.Refusal.{Refusal}
+use Rattle.model.specs.declared.Refusal.the-variants.{HeapFull}
+use Rattle.model.specs.declared.Reply.the-variants.{Refused}
+use Rattle.model.specs.Answers as A
+use Rattle.address.specs.Here.{Addr, here, here-lawful}
+use Rattle.model.specs.Members as list
+use Rattle.model.specs.Node as M
+use Rattle.model.specs.Detector as D
+use Rattle.model.specs.Calls.{keptStep}
+use Rattle.laws_node.specs.Good.{Good}
+use Rattle.laws.specs.Ranges.{ranges}
+use Rattle.laws_rules.specs.Keeps.{Keeps, change-keeps}
+use Rattle.laws_rules.specs.KeepsCalls.{suspect-keeps}
+use Rattle.types.specs.declared.Event.{Event}
+use Rattle.types.specs.declared.Event.the-variants.{Suspected}
+use Rattle.types.specs.declared.Gossip.{Gossip}
+use Rattle.types.specs.Views.{toEvent, toGossip}
+use Rattle.model.specs.declared.Drew.the-variants as drew
+use Rattle.order.specs.declared.Exclusion.the-variants.{Peer}
+use Rattle.disseminate.specs.declared.Pushed.{Pushed}
+use Rattle.disseminate.specs.Views.{heldOr, viewDisseminator}
+use Rattle.member.specs.declared.Members.{Members}
+use Rattle.member.specs.declared.Picked.{Picked}
+use Rattle.member.specs.Views.{Held, packMembers, viewMembers, pickedAs, pickedOf}
+use Rattle.node.specs.declared.Node.{Node}
+use Rattle.node.specs.Views.{viewNode, packNode, storedView, withMembers, withDisseminator}
+use Rattle.node.specs.Rows.{Ready, ready-pack, view-pack}
+use Rattle.node.specs.Parts.{part-members}
+use Rattle.node.specs.Emitting.{Said, emit-full, emit-kept}
+use Rattle.wait.specs.declared.Wait.{Wait}
+use Rattle.wait.specs.declared.Stepped.{Stepped}
+use Rattle.wait.specs.Views.{toWait, steppedOf, plainStep, keptOf}
+use Rattle.pinging.specs.Views.{groupAsked}
+use Rattle.wait.specs.Ends.{plain-step}
+use Rattle.pinging.proofs.Drawing.{missed, after-is, Turned, turned}
+
+-- a suspicion was pushed: what the code has of it
+pub record Request : Type 0 where
+  pub node : Node
+  pub ready : Ready node
+  pub wait : Wait
+  pub target : Addr
+  pub number : ℕ
+  pub tick : ℕ
+  pub draws : List ℕ
+  pub valid : here .valid target ≡ true
+  pub members : Members
+  pub members-is : members ≡ packMembers (list.update (here .same) (record { addr = target; state = state.Suspected; number = number }) (viewMembers (node .members)))
+  pub gossip : Gossip
+  pub named : gossip .event ≡ Suspected (node .own) target number
+  pub pushed : Pushed
+  pub pushed-is : pushed ≡ heldOr (node .disseminator) (M.pushed here kind.Alive (toGossip gossip) (viewDisseminator (node .disseminator)) [])
+
+module _ (q : Request) where
+  abbrev changed : M.Node Addr
+  changed = M.change here (q .target) state.Suspected (q .number) (viewNode (q .node))
+
+  changed-good : Good here changed
+  changed-good = change-keeps here here-lawful (q .target) state.Suspected (q .number) (viewNode (q .node)) (q .ready .good) .good
+
+  -- the node with its list changed, of which the code makes the list alone
+  changed-is : withMembers (q .node) (q .members) ≡ packNode changed
+  unfolding M.change viewNode
+  changed-is = part-members (q .node) (q .ready) (list.update (here .same) (record { addr = q .target; state = state.Suspected; number = q .number }) (viewNode (q .node) .members)) (q .members) (q .members-is)
+
+  abbrev outcome : A.Answer (D.Stepped Addr) → Stepped
+  outcome x = steppedOf (keptStep here (storedView (q .node)) (toWait (q .wait)) (q .draws) x)
+
+  -- what the rule gives
+  abbrev pub requested : Stepped
+  requested = outcome (D.sendPingReq here (q .target) (q .number) (q .tick) (viewNode (q .node)) (q .draws))
+
+  abbrev then-ask : A.Answer (M.Out Addr) → A.Answer (D.Stepped Addr)
+  then-ask x = A.andThen x λ o rest. A.andThen (D.pickGroup here (q .target) (o .node) rest) λ p rest₂. A.done (D.asked here (q .target) (q .number) (q .tick) o p) rest₂
+
+  suspects : D.suspect here (q .target) (q .number) (viewNode (q .node)) (q .draws) ≡ M.emit here kind.Alive (toGossip (q .gossip)) changed (q .draws)
+  unfolding D.suspect viewNode
+  suspects = ap (λ (x : Event). M.emit here kind.Alive (record { event = toEvent x }) changed (q .draws)) (sym (q .named))
+
+  pub request-full : q .pushed .full ≡ true → plainStep (Refused HeapFull) (q .node) (q .wait) ≡ requested
+  unfolding D.sendPingReq
+  request-full h =
+      plain-step (Refused HeapFull) (q .node) (q .wait)
+      ∙ sym (ap (λ (x : A.Answer (M.Out Addr)). outcome (then-ask x)) (suspects ∙ emit-full kind.Alive (toGossip (q .gossip)) (q .draws) changed-good changed-is (q .pushed-is) h))
+
+  module _ (h : q .pushed .full ≡ false) where
+    -- the node with its heap changed too, of which the code makes the heap alone
+    abbrev emitted : Node
+    emitted = withDisseminator (withMembers (q .node) (q .members)) (q .pushed .disseminator)
+
+    kept : Said (toGossip (q .gossip)) (q .draws) (M.emit here kind.Alive (toGossip (q .gossip)) changed (q .draws)) emitted
+    kept = emit-kept kind.Alive (toGossip (q .gossip)) (q .draws) changed-good changed-is (q .pushed-is) h
+
+    abbrev said : M.Node Addr
+    said = kept .after
+
+    suspected : D.suspect here (q .target) (q .number) (viewNode (q .node)) (q .draws) ≡ A.done (record { node = said; said = toGossip (q .gossip) ∷ [] }) (q .draws)
+    suspected = suspects ∙ kept .is
+
+    said-good : Good here said
+    said-good = after-is {P = λ (o : M.Out Addr). Keeps here (viewNode (q .node)) (o .node)} suspected (suspect-keeps here here-lawful (q .target) (q .number) (viewNode (q .node)) (q .draws) (q .ready .good) (q .valid)) .good
+
+    seen : viewNode emitted ≡ said
+    seen = ap viewNode (kept .node) ∙ view-pack said (said-good .whole)
+
+    pub said-held : Held (q .members)
+    said-held = ready-emitted .members
+      where
+        ready-emitted : Ready emitted
+        ready-emitted = rw (kept .node) (ready-pack said said-good)
+
+    pub wanted-few : q .node .settings .«ping_req_group_size» ≤ 4
+    unfolding viewNode
+    wanted-few = ranges (q .node .settings) (q .ready .good .settings) .group
+
+    abbrev then-asked : A.Answer (list.Picked Addr) → A.Answer (D.Stepped Addr)
+    then-asked x = A.andThen x λ p rest₂. A.done (D.asked here (q .target) (q .number) (q .tick) (record { node = said; said = toGossip (q .gossip) ∷ [] }) p) rest₂
+
+    reached : outcome (then-asked (D.pickGroup here (q .target) said (q .draws))) ≡ requested
+    unfolding D.sendPingReq
+    reached = sym (ap (λ (x : A.Answer (M.Out Addr)). outcome (then-ask x)) suspected)
+
+    module _ (k : Picked) (z : k ≡ pickedOf (q .members) (q .node .own) (Peer (q .target)) (q .node .settings .«ping_req_group_size») (q .draws) 0) where
+      -- the pick of the rows is the model's
+      picked : k ≡ pickedAs (q .members) (length (q .draws)) (D.pickGroup here (q .target) said (q .draws))
+      unfolding viewNode D.pickGroup
+      picked =
+          z
+          ∙ ap (λ (j : ℕ). pickedAs (q .members) j (D.pickGroup here (q .target) (viewNode emitted) (q .draws))) (omega arith)
+          ∙ ap (λ (x : M.Node Addr). pickedAs (q .members) (length (q .draws)) (D.pickGroup here (q .target) x (q .draws))) seen
+
+      pub request-refused : (u : Refusal) → k .drew ≡ drew.Refused u → plainStep (Refused u) (q .node) (q .wait) ≡ requested
+      request-refused u d =
+          plain-step (Refused u) (q .node) (q .wait)
+          ∙ sym (ap (λ (x : A.Answer (list.Picked Addr)). outcome (then-asked x)) (missed (q .members) (length (q .draws)) (D.pickGroup here (q .target) said (q .draws)) k u picked d))
+          ∙ reached
+
+      module _ {used : ℕ} {t : Node} (d : k .drew ≡ drew.Used used) (y : t ≡ withMembers emitted (k .members)) where
+        group : Turned (said .settings .«ping_req_group_size») (q .draws) said (D.pickGroup here (q .target) said (q .draws)) used k t
+        unfolding D.pickGroup
+        group = turned (said .own) (some (q .target)) (said .settings .«ping_req_group_size») (q .draws) said said-good (q .members) k d (kept .node) y picked
+
+        pub request-ready : Ready t
+        request-ready = group .ready
+
+        pub request-few : k .picks .count ≤ 4
+        request-few = omega (arith, group .few, ranges (said .settings) (said-good .settings) .group)
+
+        pub request-kept : steppedOf (keptOf used (groupAsked (q .target) (q .number) (q .tick) (toGossip (q .gossip)) (D.askEach here (q .target) (take (k .picks .count) (k .picks .row)) (viewNode t) []))) ≡ requested
+        unfolding D.asked
+        request-kept =
+            (λ i. steppedOf (keptOf (group .many i) (groupAsked (q .target) (q .number) (q .tick) (toGossip (q .gossip)) (D.askEach here (q .target) (group .picks i) (group .seen i) []))))
+            ∙ sym (ap (λ (j : A.Answer (list.Picked Addr)). outcome (then-asked j)) (group .is))
+            ∙ reached

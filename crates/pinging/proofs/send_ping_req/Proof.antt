@@ -1,0 +1,91 @@
+-- `pinging::send_ping_req` meets its contract: 9, then 8, then the group is asked.
+-- Assumes nothing.
+use mathlib.Core.Path.{ap, _∙_}
+use Prim.Native.Nat.{_-_}
+use native.Mathlib.Omega.{arith}
+use borrow.Author.Needs.{needs}
+use Rattle.node.specs.declared.Node.{Node}
+use Rattle.node.specs.Views.{withDisseminator}
+use Rattle.wait.specs.Ends.{plain-gives}
+use Rattle.pinging.proofs.Requests.{Request, request-full, said-held, wanted-few, request-refused, request-ready, request-few, request-kept}
+use Rattle.pinging.proofs.send_ping_req.Statement.{statement}
+use Rattle.pinging.proofs.send_ping_req.Tie as tie
+
+-- what the code has when it has pushed
+abbrev request : tie.After-push → Request
+request p =
+    let g = p .before .before in
+    let u = g .before in
+    let s = u .before .before .before in
+    record {
+      node = s .args .node;
+      ready = s .pre .0;
+      wait = s .args .wait;
+      target = s .args .target;
+      number = s .args .number;
+      tick = s .args .tick;
+      draws = s .args .draws .now;
+      valid = s .pre .1;
+      members = u .update-member .result;
+      members-is = u .update-member .ensures;
+      gossip = record { event = g .new-node-suspected .result };
+      named = g .new-node-suspected .ensures;
+      pushed = p .push .result;
+      pushed-is = p .push .ensures;
+    }
+
+returns : tie.Need-returns
+returns c = plain-gives (c .plain .ensures) (request-full (request (c .before .before)) (c .before .if1 .taken))
+
+get-member-list-requires : tie.Need-get-member-list-requires
+get-member-list-requires c κs =
+    let q = request (c .before .before) in
+    (said-held q (c .before .if1 .left), wanted-few q (c .before .if1 .left), omega arith)
+
+ask-group-requires : tie.Need-ask-group-requires
+ask-group-requires c κs =
+    let d = c .before .before .before .before in
+    let k = d .before .before .before .before in
+    let o = k .before .before in
+    let p = o .before in
+    let y = c .with-disseminator .ensures ∙ ap (λ (x : Node). withDisseminator x (p .push .result .disseminator)) (c .before .with-members .ensures) in (
+      request-ready (request p) (o .if1 .left) (k .get-member-list .result) (k .get-member-list .ensures) (d .drew .given .1) y,
+      request-few (request p) (o .if1 .left) (k .get-member-list .result) (k .get-member-list .ensures) (d .drew .given .1) y,
+    )
+
+returns-2 : tie.Need-returns-2
+returns-2 c =
+    let t = c .before in
+    let d = t .before .before .before .before in
+    let k = d .before .before .before .before in
+    let o = k .before .before in
+    let p = o .before in
+    let y = t .with-disseminator .ensures ∙ ap (λ (x : Node). withDisseminator x (p .push .result .disseminator)) (t .before .with-members .ensures) in
+    let g = c .ask-group .ensures in
+    record { is = g .is ∙ request-kept (request p) (o .if1 .left) (k .get-member-list .result) (k .get-member-list .ensures) (d .drew .given .1) y; written = g .written; reported = g .reported }
+
+returns-3 : tie.Need-returns-3
+returns-3 c =
+    let d = c .before .before in
+    let k = d .before .before .before .before in
+    let o = k .before .before in
+    plain-gives (c .plain2 .ensures) (request-refused (request (o .before)) (o .if1 .left) (k .get-member-list .result) (k .get-member-list .ensures) (d .drew2 .given .0 .0) (d .drew2 .given .1))
+
+pub send-ping-req-spec : {M : Type 1} → statement M
+send-ping-req-spec =
+    tie.close
+    (tie.spec
+    (λ c κs. search needs)
+    (λ c κs. search needs)
+    (λ c κs. search needs)
+    (λ c κs. search needs)
+    returns
+    get-member-list-requires
+    (λ c. search needs)
+    (λ c κs. search needs)
+    (λ c κs. search needs)
+    ask-group-requires
+    (λ c. search needs)
+    (λ c κs. search needs)
+    returns-2
+    returns-3)

@@ -1,0 +1,204 @@
+// Pings and ping requests: what is picked, changed and sent.
+use address::Address;
+use member::Member;
+use model::Drew;
+use model::Kind;
+use model::Refusal;
+use model::Reply;
+use model::State;
+use node::Node;
+use order::Exclusion;
+use order::Picks;
+use types::Action;
+use types::Event;
+use types::Gossip;
+use types::Optional;
+use wait::Stepped;
+use wait::Wait;
+use wait::WaitState;
+use wait::mail::Mail;
+ghost use mathlib.Core.Path.{_≡_};
+ghost use mathlib.Core.Bool.{true};
+ghost use mathlib.Core.List.{[], map};
+ghost use Prim.Native.Nat.{_+_, _*_, _≤_, _<_};
+ghost use lib.ListN.{take};
+ghost use Rattle.address.specs.Here.{here};
+ghost use Rattle.model.specs.Detector as D;
+ghost use Rattle.model.specs.Calls as calls;
+ghost use Rattle.types.specs.Views.{toGossip};
+ghost use Rattle.disseminate.specs.Fit.{most-chosen};
+ghost use Rattle.node.specs.Views.{storedView, viewNode};
+ghost use Rattle.node.specs.Rows.{Ready};
+ghost use Rattle.wait.specs.Views.{toWait, keptOf, Gives, PackedMail};
+ghost use Rattle.pinging.specs.Views.{askedOne, askedOf, groupAsked};
+
+// If one is picked: Ping, set Pending, wait for PingAck. If none: the gossip is spent but not written.
+fn pinged(
+    node: Node,
+    picks: Picks,
+    rows: [Gossip; 64],
+    count: usize,
+    used: usize,
+    tick: u32,
+) -> Stepped
+    requires { ⌜ Ready node × (picks .count ≤ 4) × (count ≤ most-chosen) ⌝ }
+    ensures { λ r. ⌜ Gives (keptOf used (D.pinged here tick (map toGossip (take count rows)) (viewNode node) (take (picks .count) (picks .row)))) r ⌝ }
+{
+    if picks.count == 0 {
+        return Stepped::plain(Reply::Done(used), node, Wait::new(tick));
+    }
+    let row = picks.row;
+    let target = row[0];
+    let members = node.members;
+    let number = members.member_number(target);
+    let mail = Mail::none();
+    let ping = Action::new_ping(node.own, Optional::Absent);
+    let sent = mail.post(target, ping, rows, count);
+    let after = node.change(target, State::Pending, number);
+    let wait = Wait {
+        state: WaitState::WaitingForPingAck { target, number },
+        since: tick,
+    };
+    let nothing = Gossip {
+        event: Event::Nothing,
+    };
+    let events = [nothing; Stepped::EVENTS];
+    Stepped::kept(used, after, sent, wait, events, 0)
+}
+
+// SendingPing: gossip is chosen, then one peer is picked.
+pub fn send_ping(node: Node, wait: Wait, tick: u32, draws: &[u64]) -> Stepped
+    requires { ⌜ Ready node ⌝ }
+    ensures { λ r. ⌜ Gives (calls.keptStep here (storedView node) (toWait wait) (now (draws .entry)) (D.sendPing here tick (viewNode node) (now (draws .entry)))) r ⌝ }
+{
+    let spread = node.spread();
+    let chosen = spread.node;
+    let rows = spread.rows;
+    let members = node.members;
+    let picked = members.get_member_list(node.own, Exclusion::Nobody, 1, draws, 0);
+    let after = picked.members;
+    let picks = picked.picks;
+    let drew = picked.drew;
+    match drew {
+        Drew::Used(used) => {
+            pinged(
+                chosen.with_members(after),
+                picks,
+                rows,
+                spread.count,
+                used,
+                tick,
+            )
+        }
+        Drew::Refused(refusal) => Stepped::plain(Reply::Refused(refusal), node, wait),
+    }
+}
+
+// A node, and what it sends to the group so far.
+pub struct Asked {
+    pub node: Node,
+    pub mail: Mail,
+}
+
+// One peer of the group is asked, with gossip chosen for it.
+fn ask_one(node: Node, mail: Mail, target: Address, suspect: Address) -> Asked
+    requires { ⌜ Ready node × PackedMail mail × (mail .sent < 4) × (mail .written ≤ 3 * most-chosen) ⌝ }
+    ensures { λ r. ⌜ r ≡ askedOne node mail target suspect ⌝ }
+    ensures within { λ r. ⌜ r .mail .written ≤ mail .written + most-chosen ⌝ }
+{
+    let spread = node.spread();
+    let chosen = spread.node;
+    let rows = spread.rows;
+    let ping_req = Action::new_ping_req(node.own, suspect);
+    Asked {
+        node: chosen,
+        mail: mail.post(target, ping_req, rows, spread.count),
+    }
+}
+
+// Each peer of the group is asked, in the order picked.
+fn ask_each(node: Node, picks: Picks, suspect: Address) -> Asked
+    requires { ⌜ Ready node × (picks .count ≤ 4) ⌝ }
+    ensures { λ r. ⌜ r ≡ askedOf (D.askEach here suspect (take (picks .count) (picks .row)) (viewNode node) []) ⌝ }
+    ensures within { λ r. ⌜ r .mail .written ≤ 4 * most-chosen ⌝ }
+{
+    let row = picks.row;
+    let count = picks.count;
+    let mut ahead = node;
+    let mut mail = Mail::none();
+    let mut i = 0;
+    while i < count {
+        let asked = ask_one(ahead, mail, row[i], suspect);
+        ahead = asked.node;
+        mail = asked.mail;
+        i += 1;
+    }
+    Asked { node: ahead, mail }
+}
+
+// The group is asked about a suspect, and the answer waited for.
+fn ask_group(
+    node: Node,
+    picks: Picks,
+    target: Address,
+    number: u64,
+    suspected: Gossip,
+    used: usize,
+    tick: u32,
+) -> Stepped
+    requires { ⌜ Ready node × (picks .count ≤ 4) ⌝ }
+    ensures { λ r. ⌜ Gives (keptOf used (groupAsked target number tick (toGossip suspected) (D.askEach here target (take (picks .count) (picks .row)) (viewNode node) []))) r ⌝ }
+{
+    let asked = ask_each(node, picks, target);
+    let after = asked.node;
+    let mail = asked.mail;
+    let wait = Wait {
+        state: WaitState::WaitingForPingReqAck { target, number },
+        since: tick,
+    };
+    let events = [suspected; Stepped::EVENTS];
+    Stepped::kept(used, after, mail, wait, events, 1)
+}
+
+// SendingPingReq: Suspected at the remembered number, emitted even if absent (9), then the group is picked without the suspect (8) and asked.
+pub fn send_ping_req(
+    node: Node,
+    wait: Wait,
+    target: Address,
+    number: u64,
+    tick: u32,
+    draws: &[u64],
+) -> Stepped
+    requires { ⌜ Ready node × (here .valid target ≡ true) ⌝ }
+    ensures { λ r. ⌜ Gives (calls.keptStep here (storedView node) (toWait wait) (now (draws .entry)) (D.sendPingReq here target number tick (viewNode node) (now (draws .entry)))) r ⌝ }
+{
+    let members = node.members;
+    let changed = members.update_member(Member {
+        addr: target,
+        state: State::Suspected,
+        number,
+    });
+    let suspected = Gossip {
+        event: Event::new_node_suspected(node.own, target, number),
+    };
+    let disseminator = node.disseminator;
+    let pushed = disseminator.push(Kind::Alive, suspected);
+    if pushed.full {
+        return Stepped::plain(Reply::Refused(Refusal::HeapFull), node, wait);
+    }
+    let settings = node.settings;
+    let wanted = settings.ping_req_group_size;
+    let picked = changed.get_member_list(node.own, Exclusion::Peer(target), wanted, draws, 0);
+    let after = picked.members;
+    let picks = picked.picks;
+    let drew = picked.drew;
+    match drew {
+        Drew::Used(used) => {
+            let told = pushed.disseminator;
+            let listed = node.with_members(after);
+            let turned = listed.with_disseminator(told);
+            ask_group(turned, picks, target, number, suspected, used, tick)
+        }
+        Drew::Refused(missed) => Stepped::plain(Reply::Refused(missed), node, wait),
+    }
+}

@@ -1,0 +1,69 @@
+-- `timer_call::end_at` meets its contract: the timer goes, its address leaves, Deceased is emitted.
+-- Assumes nothing.
+use mathlib.Core.Path.{_≡_, ap, _∙_}
+use mathlib.Core.List.{[], _∷_}
+use native.Mathlib.Omega.{arith}
+use borrow.Author.Needs.{needs}
+use Rattle.model.specs.declared.Reply.the-variants.{Done}
+use Rattle.node.specs.declared.Node.{Node}
+use Rattle.node.specs.Views.{plainAnswer, withMembers, withDisseminator}
+use Rattle.timer_call.specs.declared.Ended.{Ended}
+use Rattle.timer_call.proofs.TimerEnds.{Death, end-full, end-kept}
+use Rattle.timer_call.proofs.end_at.Statement.{statement}
+use Rattle.timer_call.proofs.end_at.Tie as tie
+
+-- what the code has when it has pushed
+abbrev death : tie.After-push → Death
+death p =
+    let d = p .before .before in
+    let w = d .before in
+    let t = w .before .before in
+    let s = t .before .before .before .before in
+    record {
+      node = s .args .node;
+      ready = s .pre .0;
+      place = s .args .place;
+      within = s .pre .1;
+      timers = t .end .result;
+      timers-is = t .end .ensures;
+      members = w .without .result;
+      members-is = w .without .ensures;
+      gossip = record { event = d .new-node-deceased .result };
+      named = d .new-node-deceased .ensures;
+      pushed = p .push .result;
+      pushed-is = p .push .ensures;
+    }
+
+returns : tie.Need-returns
+returns c = (c .plain .ensures ∙ end-full (death (c .before .before)) (c .before .if1 .taken), omega (arith, ap (λ (x : Ended). x .reported) (c .plain .ensures)))
+
+returns-2 : tie.Need-returns-2
+returns-2 c =
+    let h = c .before in
+    let m = h .before in
+    let r = m .before in
+    let o = r .before .before in
+    let q = death (o .before) in
+    let z = h .with-disseminator .ensures
+    ∙ ap (λ (x : Node). withDisseminator x (q .pushed .disseminator)) (m .with-members .ensures ∙ ap (λ (x : Node). withMembers x (q .members)) (r .with-timers .ensures)) in (
+      (λ i. record { answer = (c .plain2 .ensures ∙ ap (plainAnswer (Done 0)) z) i; events = q .gossip ∷ []; reported = 1 }) ∙ end-kept q (o .if1 .left),
+      omega arith,
+    )
+
+pub end-at-spec : {M : Type 1} → statement M
+end-at-spec =
+    tie.close
+    (tie.spec
+    (λ c. search needs)
+    (λ c. search needs)
+    (λ c κs. search needs)
+    (λ c κs. search needs)
+    (λ c κs. search needs)
+    (λ c κs. search needs)
+    (λ c κs. search needs)
+    returns
+    (λ c κs. search needs)
+    (λ c κs. search needs)
+    (λ c κs. search needs)
+    (λ c κs. search needs)
+    returns-2)
