@@ -1,4 +1,4 @@
--- What a verdict means: each is given exactly where its conditions hold. They are written out here for each kind of event.
+-- What a verdict means: where it is given, its conditions hold. They are written out here for each kind of event.
 -- Assumes nothing.
 use mathlib.Core.Path.{_≡_, refl}
 use mathlib.Core.Bool.{Bool, true, false, not, _&&_}

@@ -5,7 +5,8 @@ use types::Action;
 use types::Gossip;
 use wait::Wait;
 ghost use Prim.Native.Nat.{_≤_};
-ghost use lib.ListN.{take};
+ghost use mathlib.Core.Path.{_≡_};
+ghost use lib.ListN.{take, drop};
 ghost use Rattle.swim.specs.Contracts.{Receives, Steps, EndsTimer};
 
 // What a timer call gives: how it ended, and the row of events that was lent.
@@ -18,7 +19,7 @@ pub struct Ended {
 // The timer call over so many lent places, one at most.
 pub fn end_timer(node: Node, tick: u32, events: [Gossip; 1], places: usize) -> Ended
     requires { ⌜ places ≤ 1 ⌝ }
-    ensures { λ r. ⌜ EndsTimer node tick (take places events) (record { reported = r .reported; answer = r .answer }) (take places (r .events)) ⌝ }
+    ensures { λ r. ⌜ EndsTimer node tick (take places events) (record { reported = r .reported; answer = r .answer }) (take places (r .events)) × (drop places (r .events) ≡ drop places events) ⌝ }
 {
     let mut lent = events;
     let outcome = swim::end_timer(node, tick, &mut lent[..places]);
@@ -50,7 +51,7 @@ pub fn step(
     places: usize,
 ) -> Stepped
     requires { ⌜ (room ≤ 256) × (places ≤ 1) ⌝ }
-    ensures { λ r. ⌜ Steps node wait tick (now (draws .entry)) (take room gossip) (take places events) (record { reported = r .reported; answer = r .answer }) (r .wait) (take room (r .gossip)) (take places (r .events)) ⌝ }
+    ensures { λ r. ⌜ Steps node wait tick (now (draws .entry)) (take room gossip) (take places events) (record { reported = r .reported; answer = r .answer }) (r .wait) (take room (r .gossip)) (take places (r .events)) × (drop room (r .gossip) ≡ drop room gossip) × (drop places (r .events) ≡ drop places events) ⌝ }
 {
     let mut held = wait;
     let mut out = gossip;
@@ -93,7 +94,7 @@ pub fn receive(
     places: usize,
 ) -> Received
     requires { ⌜ (given ≤ 65) × (room ≤ 64) × (places ≤ 65) ⌝ }
-    ensures { λ r. ⌜ Receives node action (take given records) (now (draws .entry)) (take room gossip) (take places events) (record { reported = r .reported; answer = r .answer }) (take room (r .gossip)) (take places (r .events)) ⌝ }
+    ensures { λ r. ⌜ Receives node action (take given records) (now (draws .entry)) (take room gossip) (take places events) (record { reported = r .reported; answer = r .answer }) (take room (r .gossip)) (take places (r .events)) × (drop room (r .gossip) ≡ drop room gossip) × (drop places (r .events) ≡ drop places events) ⌝ }
 {
     let mut out = gossip;
     let mut told = events;

@@ -1,4 +1,4 @@
--- Among any 2n - 1 pings in a row each of n peers is picked, whatever the draws.
+-- Among any 2n - 1 pings in a row each of n peers is picked, whatever the draws, while the own address is listed.
 -- Assumes nothing.
 use mathlib.Core.Path.{_≡_, refl, ap, sym, _∙_}
 use mathlib.Core.Logic.{_⊎_, inl, inr, ⊎-elim}

@@ -1,4 +1,4 @@
--- How the code's verdicts and news carry the model's: each of `to` and `from` undoes the other.
+-- How the code's verdicts and news carry the model's: what `from` made, `to` undoes.
 -- Assumes nothing.
 use mathlib.Core.Path.{_≡_, refl, ap}
 use mathlib.Core.List.{List}

@@ -25,7 +25,7 @@ ghost use Rattle.disseminate.specs.Views.{fromFound};
 ghost use Rattle.member.specs.Views.{viewMembers, packMembers, Held};
 ghost use Rattle.rules.specs.Views.{toFound, fromVerdict, toVerdict, fromNews, stayed, listAfterOf};
 
-// What an event comes to. Nothing happens: there is none, the address is unknown, its number equals that of a peer that isn't Alive, or it is not high enough.
+// What an event comes to. Nothing happens: there is none, the address is unknown, a suspicion's number equals that of a peer that isn't Alive, or the number is not high enough.
 // Or a number plus one is needed and there is none. Or the own address refutes a suspicion; an address comes in; a listed one is raised, recovers, is suspected or dies.
 pub enum Verdict {
     Skip,

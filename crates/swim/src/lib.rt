@@ -33,7 +33,7 @@ pub fn add_peer(node: Node, a: Address, number: u64, draws: &[u64]) -> Answer
     node::add_peer(node, a, number, draws)
 }
 
-// The message: 2, 3, 4, 5, then the first of 6 to 10 that the rules reach. `rows` are its gossip records.
+// The message: 2, 3, 4, 5, then the first of 6 to 9 that the rules reach. `rows` are its gossip records.
 // Named form: a lent slice of gossip structs walked by a thin handler function; outputs written likewise.
 pub fn receive(
     node: Node,

@@ -1,4 +1,4 @@
--- How the declared types carry the model's words: each of `to` and `from` undoes the other.
+-- How the declared types carry the model's words, and which of `to` and `from` undoes which.
 -- Assumes nothing.
 use mathlib.Core.Path.{_≡_, refl}
 use mathlib.Core.List.{List, [], _∷_, map}

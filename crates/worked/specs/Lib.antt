@@ -1,6 +1,7 @@
 pub mod Cabinet
 pub mod Table
 pub mod Worked
+pub mod Sent
 pub mod Day
 pub mod Seen
 pub mod Wrong

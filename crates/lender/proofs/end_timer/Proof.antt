@@ -57,7 +57,7 @@ use Rattle.swim.proofs.end_timer.Symbol as thin-def
 use Rattle.swim.proofs.end_timer.Symbol.{name as #thin}
 use Rattle.swim.proofs.end_timer.Met as thin-thm
 use Rattle.lender.proofs.Values.{gvals, nval, aval, oval, refTy, onTy, in-reported, in-answer}
-use Rattle.lender.proofs.Lending.{behind, kept, lend-first, come-back, one-value, take-front, in-field, lent-long, arr-typed, rows-tell}
+use Rattle.lender.proofs.Lending.{behind, kept, lend-first, come-back, one-value, take-front, drop-front, in-field, lent-long, arr-typed, rows-tell}
 use Rattle.lender.specs.declared.Ended.{Ended}
 use Rattle.lender.proofs.Ended as E
 use Rattle.lender.proofs.Ended.Laws as E′
@@ -122,7 +122,7 @@ module _ {M : Type 1} (𝓤 : URA M) (H : Heap 𝓤) (A : Atoms 𝓤) (W : Given
   ans r ws = record { reported = r .reported; events = ws ++ drop k es; answer = r .answer }
 
   abbrev Says : Ended → Type 0
-  Says e = EndsTimer nd t (take k es) (record { reported = e .reported; answer = e .answer }) (take k (e .events))
+  Says e = EndsTimer nd t (take k es) (record { reported = e .reported; answer = e .answer }) (take k (e .events)) × (drop k (e .events) ≡ drop k es)
 
   exits : (e : Ended) (v : Val) → Says e → Is E.the-row e (v ∷ []) → ent 𝓤 (emp 𝓤) (Post v)
   exits e v h is =
@@ -159,7 +159,7 @@ module _ {M : Type 1} (𝓤 : URA M) (H : Heap 𝓤) (A : Atoms 𝓤) (W : Given
           returns ! (look ! 18 refl) $ forget ! 0 refl $ forget ! 1 refl $ forget ! 3 refl $ forget ! 5 refl $ forget ! 7 refl $ forget ! 10 refl $ forget ! 12 refl $ forget ! 14 refl $ forget ! 16 refl $ forget ! 18 refl $
           move ! (18 ∷ 19 ∷ []) $ free1 ! $ move ! (16 ∷ 17 ∷ []) $ free1 ! $ move ! (14 ∷ 15 ∷ []) $ free1 ! $ move ! (12 ∷ 13 ∷ []) $ free1 ! $ move ! (10 ∷ 11 ∷ []) $ free1 ! $ move ! (0 ∷ 9 ∷ []) $ free1 ! $
           move ! (6 ∷ 7 ∷ []) $ free1 ! $ move ! (4 ∷ 5 ∷ []) $ free1 ! $ move ! (2 ∷ 3 ∷ []) $ free1 ! $ free1 ! $ free0 ! $
-          by ! (exits (ans r ws) _ (subst (λ (es′ : List Gossip). EndsTimer nd t (take k es) r es′) (sym (take-front k ws (drop k es) l)) h) (ans-is r u iso ws isw))
+          by ! (exits (ans r ws) _ (subst (λ (es′ : List Gossip). EndsTimer nd t (take k es) r es′) (sym (take-front k ws (drop k es) l)) h, drop-front k ws (drop k es) l) (ans-is r u iso ws isw))
 
     module _ (l₀ l₁ l₂ l₃ l₄ l₅ l₆ l₇ l₈ l₉ : ℕ) where
       abbrev Ev : Env 𝓤 H

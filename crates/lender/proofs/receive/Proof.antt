@@ -61,7 +61,7 @@ use Rattle.swim.proofs.receive.Symbol as thin-def
 use Rattle.swim.proofs.receive.Symbol.{name as #thin}
 use Rattle.swim.proofs.receive.Met as thin-thm
 use Rattle.lender.proofs.Values.{gvals, nval, aval, oval, refTy, onTy, in-reported, in-answer}
-use Rattle.lender.proofs.Lending.{behind, kept, shown, lend-first, come-back, show-first, seen, one-value, take-front, in-field, lent-long, arr-typed, rows-tell}
+use Rattle.lender.proofs.Lending.{behind, kept, shown, lend-first, come-back, show-first, seen, one-value, take-front, drop-front, in-field, lent-long, arr-typed, rows-tell}
 use Rattle.lender.specs.declared.Received.{Received}
 use Rattle.lender.proofs.Received as S
 use Rattle.lender.proofs.Received.Laws as S′
@@ -193,12 +193,15 @@ module _ {M : Type 1} (𝓤 : URA M) (H : Heap 𝓤) (A : Atoms 𝓤) (W : Given
   ans r vs us = record { reported = r .reported; gossip = vs ++ drop k gs; events = us ++ drop j es; answer = r .answer }
 
   abbrev Says : Received → Type 0
-  Says s = Receives nd ac (take m rs) ds (take k gs) (take j es) (record { reported = s .reported; answer = s .answer }) (take k (s .gossip)) (take j (s .events))
+  Says s = Receives nd ac (take m rs) ds (take k gs) (take j es) (record { reported = s .reported; answer = s .answer }) (take k (s .gossip)) (take j (s .events)) × (drop k (s .gossip) ≡ drop k gs) × (drop j (s .events) ≡ drop j es)
 
   -- the rows' first places hold their last lists
   said-front : (r : Outcome) (vs us : List Gossip) → length vs ≡ k → length us ≡ j → Said r vs us → Says (ans r vs us)
-  said-front r vs us lv lu h =
-      subst (λ (x : List Gossip). Said r x (take j (us ++ drop j es))) (sym (take-front k vs (drop k gs) lv)) (subst (λ (x : List Gossip). Said r vs x) (sym (take-front j us (drop j es) lu)) h)
+  said-front r vs us lv lu h = (
+    subst (λ (x : List Gossip). Said r x (take j (us ++ drop j es))) (sym (take-front k vs (drop k gs) lv)) (subst (λ (x : List Gossip). Said r vs x) (sym (take-front j us (drop j es) lu)) h),
+    drop-front k vs (drop k gs) lv,
+    drop-front j us (drop j es) lu,
+  )
 
   exits : (s : Received) (v : Val) → Says s → Is S.the-row s (v ∷ []) → ent 𝓤 (⋆ 𝓤 H A (‵ (flft κ q) ∷ [])) (Post v)
   exits s v h is =

@@ -62,7 +62,7 @@ use Rattle.swim.proofs.step.Symbol as thin-def
 use Rattle.swim.proofs.step.Symbol.{name as #thin}
 use Rattle.swim.proofs.step.Met as thin-thm
 use Rattle.lender.proofs.Values.{gvals, nval, aval, oval, refTy, onTy, in-reported, in-answer}
-use Rattle.lender.proofs.Lending.{behind, kept, lend-first, come-back, one-value, take-front, in-field, lent-long, arr-typed, rows-tell}
+use Rattle.lender.proofs.Lending.{behind, kept, lend-first, come-back, one-value, take-front, drop-front, in-field, lent-long, arr-typed, rows-tell}
 use Rattle.lender.proofs.Record.{wval, to-part, of-part}
 use Rattle.lender.specs.declared.Stepped.{Stepped}
 use Rattle.lender.proofs.Stepped as S
@@ -186,12 +186,15 @@ module _ {M : Type 1} (𝓤 : URA M) (H : Heap 𝓤) (A : Atoms 𝓤) (W : Given
   ans r w vs us = record { wait = w; reported = r .reported; gossip = vs ++ drop k gs; events = us ++ drop j es; answer = r .answer }
 
   abbrev Says : Stepped → Type 0
-  Says s = Steps nd hd t ds (take k gs) (take j es) (record { reported = s .reported; answer = s .answer }) (s .wait) (take k (s .gossip)) (take j (s .events))
+  Says s = Steps nd hd t ds (take k gs) (take j es) (record { reported = s .reported; answer = s .answer }) (s .wait) (take k (s .gossip)) (take j (s .events)) × (drop k (s .gossip) ≡ drop k gs) × (drop j (s .events) ≡ drop j es)
 
   -- the rows' first places hold their last lists
   said-front : (r : Outcome) (w : Wait) (vs us : List Gossip) → length vs ≡ k → length us ≡ j → Said r w vs us → Says (ans r w vs us)
-  said-front r w vs us lv lu h =
-      subst (λ (x : List Gossip). Said r w x (take j (us ++ drop j es))) (sym (take-front k vs (drop k gs) lv)) (subst (λ (x : List Gossip). Said r w vs x) (sym (take-front j us (drop j es) lu)) h)
+  said-front r w vs us lv lu h = (
+    subst (λ (x : List Gossip). Said r w x (take j (us ++ drop j es))) (sym (take-front k vs (drop k gs) lv)) (subst (λ (x : List Gossip). Said r w vs x) (sym (take-front j us (drop j es) lu)) h),
+    drop-front k vs (drop k gs) lv,
+    drop-front j us (drop j es) lu,
+  )
 
   exits : (s : Stepped) (v : Val) → Says s → Is S.the-row s (v ∷ []) → ent 𝓤 (⋆ 𝓤 H A (‵ (flft κ q) ∷ [])) (Post v)
   exits s v h is =
