@@ -14,7 +14,7 @@ use timers::Timers;
 use types::Event;
 use types::Gossip;
 
-pub fn settings() -> Settings {
+fn settings() -> Settings {
     Settings {
         ping_interval: 10,
         ping_timeout: 10,
@@ -27,15 +27,43 @@ pub fn settings() -> Settings {
     }
 }
 
-pub fn peer(addr: Address, number: u64) -> Member {
+fn state(kind: u64) -> State {
+    match kind {
+        0 => State::Alive,
+        1 => State::Pending,
+        _ => State::Suspected,
+    }
+}
+
+pub fn member(addr: Address, kind: u64, number: u64) -> Member {
+    let state = state(kind);
     Member {
         addr,
-        state: State::Alive,
+        state,
         number,
     }
 }
 
-pub fn entry(event: Event, sends: u64, size: u64) -> Entry {
+// Kinds 1 to 4 are Joined, Recovered, Suspected, Deceased.
+fn event(kind: u64, from: Address, subject: Address, number: u64) -> Event {
+    match kind {
+        1 => Event::new_node_joined(from, subject, number),
+        2 => Event::new_node_recovered(from, subject, number),
+        3 => Event::new_node_suspected(from, subject, number),
+        4 => Event::new_node_deceased(from, subject, number),
+        _ => Event::Nothing,
+    }
+}
+
+pub fn entry(
+    kind: u64,
+    from: Address,
+    subject: Address,
+    number: u64,
+    sends: u64,
+    size: u64,
+) -> Entry {
+    let event = event(kind, from, subject, number);
     let gossip = Gossip { event };
     Entry {
         gossip,
@@ -44,21 +72,22 @@ pub fn entry(event: Event, sends: u64, size: u64) -> Entry {
     }
 }
 
-// An event of this node about a peer: kinds 1 to 4 are Joined, Recovered, Suspected, Deceased.
-pub fn event(kind: u64, subject: Address, number: u64) -> Event {
-    match kind {
-        1 => Event::new_node_joined(1, subject, number),
-        2 => Event::new_node_recovered(1, subject, number),
-        3 => Event::new_node_suspected(1, subject, number),
-        4 => Event::new_node_deceased(1, subject, number),
-        _ => Event::Nothing,
+fn tick(value: u64) -> u32 {
+    (value % 4294967296) as u32
+}
+
+pub fn timer(addr: Address, number: u64, since: u64) -> Timer {
+    Timer {
+        addr,
+        number,
+        since: tick(since),
     }
 }
 
 fn list() -> Members {
     let mut table = [Member::none(); 64];
-    table[0] = peer(1, 0);
-    table[1] = peer(2, 5);
+    table[0] = member(1, 0, 0);
+    table[1] = member(2, 0, 5);
     let mut row = [address::blank(); 64];
     row[0] = 2;
     row[1] = 1;
@@ -71,31 +100,23 @@ fn list() -> Members {
 
 fn living() -> Heap {
     let mut entries = [Entry::empty(); 128];
-    entries[0] = entry(event(1, 2, 0), 3, 24);
-    entries[1] = entry(event(2, 2, 127), 3, 26);
-    entries[2] = entry(event(3, 2, 128), 4, 27);
+    entries[0] = entry(1, 1, 2, 0, 3, 24);
+    entries[1] = entry(2, 1, 2, 127, 3, 26);
+    entries[2] = entry(3, 1, 2, 128, 4, 27);
     Heap { entries, len: 3 }
 }
 
 fn dead() -> Heap {
     let mut entries = [Entry::empty(); 128];
-    entries[0] = entry(event(4, 3, 0), 0, 24);
+    entries[0] = entry(4, 1, 3, 0, 0, 24);
     Heap { entries, len: 1 }
 }
 
 // Timers stand in starting order, which isn't checked: here they don't.
 fn running() -> Timers {
     let mut entries = [Timer::empty(); 16];
-    entries[0] = Timer {
-        addr: 2,
-        number: 5,
-        since: 100,
-    };
-    entries[1] = Timer {
-        addr: 9,
-        number: 0,
-        since: 50,
-    };
+    entries[0] = timer(2, 5, 100);
+    entries[1] = timer(9, 0, 50);
     Timers { entries, len: 2 }
 }
 
@@ -115,8 +136,25 @@ pub fn sound() -> Node {
     }
 }
 
-pub fn set_up(mut node: Node, settings: Settings) -> Node {
-    node.settings = settings;
+// The setting of a number, in the order in which they stand.
+fn setting(mut settings: Settings, which: u64, value: u64) -> Settings {
+    match which {
+        0 => settings.ping_interval = tick(value),
+        1 => settings.ping_timeout = tick(value),
+        2 => settings.ping_req_timeout = tick(value),
+        3 => settings.suspect_timeout = tick(value),
+        4 => settings.ping_req_group_size = value as usize,
+        5 => settings.send_constant = value as usize,
+        6 => settings.max_selected = value as usize,
+        _ => settings.max_size = value as usize,
+    }
+    settings
+}
+
+pub fn set_up(mut node: Node, which: u64, value: u64) -> Node {
+    let settings = node.settings;
+    let changed = setting(settings, which, value);
+    node.settings = changed;
     node
 }
 

@@ -55,8 +55,7 @@ fn tell_timer(node: Node) {
     tell_refusal(reply);
 }
 
-pub fn tell(clause: &[u8], node: Node) {
-    io::write_all(STDOUT_FILENO, clause);
+pub fn tell(node: Node) {
     tell_add(node);
     tell_message(node);
     tell_step(node);
