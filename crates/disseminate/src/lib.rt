@@ -14,14 +14,14 @@ ghost use lib.Dec.{eqb, leb, ltb};
 ghost use Rattle.model.specs.Rows.{one, pick};
 ghost use Rattle.address.specs.Here.{here};
 ghost use Rattle.model.specs.Limit.{limitOf};
-ghost use Rattle.model.specs.Choose.{wasNoted, takeTop, tryHeap, gave, termsOf, choose as chosenFrom, deathIn, death as deathOf};
+ghost use Rattle.model.specs.Choose.{wasNoted, takeTop, tryHeap, gave, termsOf, choose as chosenFrom, entryOf, deathIn, death as deathOf};
 ghost use Rattle.model.specs.declared.Kind.the-variants as kind;
 ghost use Rattle.model.specs.Node.{pushed};
 ghost use Rattle.model.specs.Sound.{inRange};
 ghost use Rattle.laws_choose.specs.GoodHeap.{GoodHeap};
 ghost use Rattle.types.specs.Views.{toGossip};
 ghost use Rattle.heap.specs.Views.{toEntry, heapView, packHeap, Packed};
-ghost use Rattle.disseminate.specs.Views.{noted as notedOf, toTerms, fromTerms, chosenNone, packChoice, PackedChosen, NotedOne, Room, NotedIf, topOf, Open, sameKind, ofKind, emitted, grown, heldOr, noNews, viewDisseminator, packDisseminator, PackedHeaps, fromFound};
+ghost use Rattle.disseminate.specs.Views.{noted as notedOf, toTerms, fromTerms, chosenNone, packChoice, PackedChosen, NotedOne, Room, NotedIf, topOf, Open, sameKind, ofKind, grown, heldOr, noNews, viewDisseminator, packDisseminator, PackedHeaps, fromFound};
 
 // Do two kinds name the same heap?
 pub fn same_kind(a: Kind, b: Kind) -> bool
@@ -67,19 +67,18 @@ pub struct Grown {
     pub full: bool,
 }
 
-// A gossip comes into a heap: not sent yet, with its size.
-pub fn emit(h: Heap, g: Gossip) -> Heap
-    requires { ⌜ Packed h × (h .len < 128) ⌝ }
-    ensures { λ r. ⌜ r ≡ emitted h (toGossip g) ⌝ }
+// A gossip as it comes into a heap: not sent yet, with its size. Measured apart from the push, which is short then and needs no copy of the heap for a call.
+pub fn entry_of(g: Gossip) -> Entry
+    ensures { λ r. ⌜ toEntry r ≡ entryOf here (toGossip g) ⌝ }
 {
-    h.push(Entry {
+    Entry {
         gossip: g,
         sends: 0,
         size: types::size_of(g),
-    })
+    }
 }
 
-// The same, or the heap as it came where it is full.
+// The heap with a gossip more, or as it came where it is full.
 fn grow(h: Heap, g: Gossip) -> Grown
     requires { ⌜ Packed h ⌝ }
     ensures { λ r. ⌜ r ≡ grown h (toGossip g) ⌝ }
@@ -91,7 +90,7 @@ fn grow(h: Heap, g: Gossip) -> Grown
         };
     }
     Grown {
-        heap: emit(h, g),
+        heap: h.push(entry_of(g)),
         full: false,
     }
 }

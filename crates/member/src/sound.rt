@@ -54,12 +54,7 @@ fn first_places(order: &[Address; Members::CAPACITY], n: usize) -> [usize; 64]
 }
 
 // The first place of an address, or n: at first sight where it is the first of its drawer, else by a scan.
-fn seek(
-    order: &[Address; Members::CAPACITY],
-    firsts: &[usize; 64],
-    n: usize,
-    a: Address,
-) -> usize
+fn seek(order: &[Address; Members::CAPACITY], firsts: &[usize; 64], n: usize, a: Address) -> usize
     requires { ⌜ (n ≤ 64) × (length (now order) ≡ 64) × Firsts (now order) n (now firsts) 0 ⌝ }
     ensures { λ r. ⌜ r ≡ placeOf (here .same) a (take n (now (order .entry))) ⌝ }
     ensures within { λ r. ⌜ r ≤ n ⌝ }

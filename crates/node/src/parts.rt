@@ -83,22 +83,27 @@ impl Node {
     {
         let settings = self.settings;
         let members = self.members;
-        let held = self.disseminator;
-        let alive = held.alive;
-        let deceased = held.deceased;
+        let timers = self.timers;
+        let alive = self.disseminator.alive;
+        let deceased = self.disseminator.deceased;
         let choice = disseminate::get_gossip(alive, deceased, settings, members.len);
         let living = choice.alive;
         let dead = choice.deceased;
-        let chosen = choice.chosen;
-        let rows = chosen.rows;
-        let left = Disseminator {
-            alive: living,
-            deceased: dead,
-        };
+        let rows = choice.chosen.rows;
+        // Written out: handed over, the heaps would be copied once more.
         Spread {
-            node: self.with_disseminator(left),
+            node: Node {
+                settings,
+                own: self.own,
+                members,
+                disseminator: Disseminator {
+                    alive: living,
+                    deceased: dead,
+                },
+                timers,
+            },
             rows,
-            count: chosen.count,
+            count: choice.chosen.count,
         }
     }
 }

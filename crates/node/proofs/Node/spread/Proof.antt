@@ -1,6 +1,6 @@
 -- `node::Node::spread` meets its contract: gossip is chosen from both heaps.
 -- Assumes nothing.
-use mathlib.Core.Path.{_≡_, ap, sym, _∙_}
+use mathlib.Core.Path.{_≡_, refl, ap, sym, _∙_}
 use Prim.Native.Nat.{ℕ, _≤_}
 use native.Mathlib.Omega.{arith}
 use lib.ListN.{length}
@@ -36,7 +36,7 @@ size-1400 n r = ranges (n .settings) (r .good .settings) .most-size
 returns : tie.Need-returns
 unfolding M.spread viewNode termsOf
 returns c =
-    let g = c .before .before .before .before .before in
+    let g = c .before .before .before in
     let s = g .before .before .before .before .before .before in
     let n = s .args .self in
     let r = s .pre in
@@ -46,9 +46,9 @@ returns c =
     g .get-gossip .ensures ∙ ap (λ (k : ℕ). packChoice (choose here (terms k) (viewNode n .disseminator .alive) (viewNode n .disseminator .deceased))) many in
     let few : length (choose here (terms (length (viewNode n .members .table))) (viewNode n .disseminator .alive) (viewNode n .disseminator .deceased) .chosen) ≤ most-chosen =
     few-chosen (terms (length (viewNode n .members .table))) (viewNode n .disseminator .alive) (viewNode n .disseminator .deceased) (size-1400 n r) (r .good .heaps kind.Alive) (r .good .heaps kind.Deceased) in (
-      spread-is n r (choose here (terms (length (viewNode n .members .table))) (viewNode n .disseminator .alive) (viewNode n .disseminator .deceased)) (g .get-gossip .result) (c .with-disseminator .result) e (c .with-disseminator .ensures),
+      spread-is n r (choose here (terms (length (viewNode n .members .table))) (viewNode n .disseminator .alive) (viewNode n .disseminator .deceased)) (g .get-gossip .result) _ e refl,
       omega (arith, ap (λ (k : Choice). k .chosen .count) e),
     )
 
 pub spread-spec : {M : Type 1} → statement M
-spread-spec = tie.close (tie.spec get-gossip-requires (λ c κs. search needs) returns)
+spread-spec = tie.close (tie.spec get-gossip-requires returns)
