@@ -5,7 +5,7 @@ use mathlib.Core.List.{List}
 use Prim.Native.Nat.{ℕ, _≤_}
 use lib.ListN.{length}
 use Rattle.model.specs.Words.{Address, Lawful}
-use Rattle.address.specs.IPv4.{ipv4, ipv4-lawful}
+use Rattle.address.specs.IPv4.{ipv4, ipv4-lawful, drawer}
 use Rattle.address.specs.TextLaws.{text, text-length, text-is-long}
 
 abbrev pub Addr : Type 0
@@ -16,6 +16,10 @@ here = ipv4
 
 pub here-lawful : Lawful here
 here-lawful = ipv4-lawful
+
+-- where it is sought in a row
+abbrev pub here-drawer : Addr → ℕ
+here-drawer = drawer
 
 -- its text, byte by byte, and how long that is
 abbrev pub here-text : Addr → List ℕ

@@ -26,6 +26,10 @@ port a = a % 65536
 unfoldable pub textLength : ℕ → ℕ
 textLength a = digits (octet a 3) + digits (octet a 2) + digits (octet a 1) + digits (octet a 0) + digits (port a) + 4
 
+-- one of 64 drawers, by which an address is sought in a row; no rule reads it
+unfoldable pub drawer : ℕ → ℕ
+drawer a = (a / 65536 % 64 + a % 64) % 64
+
 abbrev pub ipv4 : Address ℕ
 ipv4 = record { same = eqb; blank = 0; valid = λ a. ltb a address-end; chars = textLength }
 

@@ -1,8 +1,8 @@
 // An address: ip × 65536 + port. The only crate that looks inside one.
 ghost use mathlib.Core.Path.{_≡_};
-ghost use Prim.Native.Nat.{_≤_};
+ghost use Prim.Native.Nat.{_≤_, _<_};
 ghost use Rattle.address.specs.IPv4.{digits as digitsOf};
-ghost use Rattle.address.specs.Here.{here};
+ghost use Rattle.address.specs.Here.{here, here-drawer};
 
 pub type Address = u64;
 
@@ -35,6 +35,14 @@ pub fn in_range(a: Address) -> bool
     ensures { λ r. ⌜ r ≡ here .valid a ⌝ }
 {
     a < Ipv4::END
+}
+
+// One of 64 drawers, by which an address is sought in a row: addresses that are near one another are put into different ones.
+pub fn drawer(a: Address) -> usize
+    ensures { λ r. ⌜ (r ≡ here-drawer a) × (r < 64) ⌝ }
+{
+    let mixed = (a / 65536 % 64 + a % 64) % 64;
+    mixed as usize
 }
 
 // How many decimal digits a number below 100000 has.

@@ -24,7 +24,6 @@ use Rattle.heap.specs.declared.Heap.{Heap}
 use Rattle.heap.specs.Views.{noEntry, heapView, packHeap, Packed, pack-view}
 use Rattle.disseminate.specs.declared.Disseminator.{Disseminator}
 use Rattle.disseminate.specs.declared.Grown.{Grown}
-use Rattle.disseminate.specs.declared.Pushed.{Pushed}
 use Rattle.disseminate.specs.declared.Found.{Found}
 use Rattle.disseminate.specs.declared.Found.the-variants.{Missing, At}
 use Rattle.disseminate.specs.declared.Terms.{Terms}
@@ -69,6 +68,11 @@ grown h g =
     pick (leb 128 (length (heapView h)))
     (record { heap = h; full = true })
     (record { heap = emitted h g; full = false })
+
+-- both heaps after a push, and whether there was no room
+pub record Pushed : Type 0 where
+  pub disseminator : Disseminator
+  pub full : Bool
 
 -- the heaps after a push that was not refused, or as they came
 abbrev pub heldOr : Disseminator → Answer (N.Disseminator Addr) → Pushed

@@ -8,20 +8,18 @@ use types::Event;
 use types::Gossip;
 ghost use mathlib.Core.Path.{_≡_};
 ghost use mathlib.Core.Bool.{Bool, true, false, _&&_, _||_};
-ghost use mathlib.Core.List.{[]};
 ghost use Prim.Native.Nat.{ℕ, _+_, _≤_, _<_};
 ghost use lib.Dec.{eqb, leb, ltb};
 ghost use Rattle.model.specs.Rows.{one, pick};
 ghost use Rattle.address.specs.Here.{here};
 ghost use Rattle.model.specs.Limit.{limitOf};
-ghost use Rattle.model.specs.Choose.{wasNoted, takeTop, tryHeap, gave, termsOf, choose as chosenFrom, deathIn, death as deathOf};
+ghost use Rattle.model.specs.Choose.{wasNoted, takeTop, tryHeap, gave, termsOf, choose as chosenFrom, entryOf, deathIn, death as deathOf};
 ghost use Rattle.model.specs.declared.Kind.the-variants as kind;
-ghost use Rattle.model.specs.Node.{pushed};
 ghost use Rattle.model.specs.Sound.{inRange};
 ghost use Rattle.laws_choose.specs.GoodHeap.{GoodHeap};
 ghost use Rattle.types.specs.Views.{toGossip};
 ghost use Rattle.heap.specs.Views.{toEntry, heapView, packHeap, Packed};
-ghost use Rattle.disseminate.specs.Views.{noted as notedOf, toTerms, fromTerms, chosenNone, packChoice, PackedChosen, NotedOne, Room, NotedIf, topOf, Open, sameKind, ofKind, emitted, grown, heldOr, noNews, viewDisseminator, packDisseminator, PackedHeaps, fromFound};
+ghost use Rattle.disseminate.specs.Views.{noted as notedOf, toTerms, fromTerms, chosenNone, packChoice, PackedChosen, NotedOne, Room, NotedIf, topOf, Open, sameKind, ofKind, grown, noNews, packDisseminator, fromFound};
 
 // Do two kinds name the same heap?
 pub fn same_kind(a: Kind, b: Kind) -> bool
@@ -55,32 +53,25 @@ pub struct Disseminator {
     pub deceased: Heap,
 }
 
-// A gossip pushed to its heap, or the heaps as they came where that one was full.
-pub struct Pushed {
-    pub disseminator: Disseminator,
-    pub full: bool,
-}
-
-// The same of one heap.
+// A heap that a gossip was pushed to, or as it came where it was full.
 pub struct Grown {
     pub heap: Heap,
     pub full: bool,
 }
 
-// A gossip comes into a heap: not sent yet, with its size.
-pub fn emit(h: Heap, g: Gossip) -> Heap
-    requires { ⌜ Packed h × (h .len < 128) ⌝ }
-    ensures { λ r. ⌜ r ≡ emitted h (toGossip g) ⌝ }
+// A gossip as it comes into a heap: not sent yet, with its size. Measured apart from the push, which is short then and needs no copy of the heap for a call.
+pub fn entry_of(g: Gossip) -> Entry
+    ensures { λ r. ⌜ toEntry r ≡ entryOf here (toGossip g) ⌝ }
 {
-    h.push(Entry {
+    Entry {
         gossip: g,
         sends: 0,
         size: types::size_of(g),
-    })
+    }
 }
 
-// The same, or the heap as it came where it is full.
-fn grow(h: Heap, g: Gossip) -> Grown
+// A gossip comes into the heap of its kind. One heap by itself, since both would be copied where one changes.
+pub fn grow(h: Heap, g: Gossip) -> Grown
     requires { ⌜ Packed h ⌝ }
     ensures { λ r. ⌜ r ≡ grown h (toGossip g) ⌝ }
 {
@@ -91,7 +82,7 @@ fn grow(h: Heap, g: Gossip) -> Grown
         };
     }
     Grown {
-        heap: emit(h, g),
+        heap: h.push(entry_of(g)),
         full: false,
     }
 }
@@ -104,39 +95,6 @@ impl Disseminator {
         Disseminator {
             alive: Heap::new(),
             deceased: Heap::new(),
-        }
-    }
-
-    // An event's gossip comes into the heap of its kind.
-    pub fn push(self, kind: Kind, g: Gossip) -> Pushed
-        requires { ⌜ PackedHeaps self ⌝ }
-        ensures { λ r. ⌜ r ≡ heldOr self (pushed here kind (toGossip g) (viewDisseminator self) []) ⌝ }
-    {
-        let alive = self.alive;
-        let deceased = self.deceased;
-        match kind {
-            Kind::Alive => {
-                let grown = grow(alive, g);
-                let heap = grown.heap;
-                Pushed {
-                    disseminator: Disseminator {
-                        alive: heap,
-                        deceased,
-                    },
-                    full: grown.full,
-                }
-            },
-            Kind::Deceased => {
-                let grown = grow(deceased, g);
-                let heap = grown.heap;
-                Pushed {
-                    disseminator: Disseminator {
-                        alive,
-                        deceased: heap,
-                    },
-                    full: grown.full,
-                }
-            },
         }
     }
 }

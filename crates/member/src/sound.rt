@@ -7,11 +7,13 @@ ghost use mathlib.Core.Path.{_≡_};
 ghost use mathlib.Core.Bool.{_&&_};
 ghost use mathlib.Core.List.{map};
 ghost use Prim.Native.Nat.{_≤_};
-ghost use lib.ListN.{take, drop};
+ghost use lib.ListN.{length, take, drop};
 ghost use Rattle.address.specs.Here.{here};
 ghost use Rattle.model.specs.Rows.{every};
+ghost use Rattle.laws_list.specs.Places.{placeOf};
 ghost use Rattle.model.specs.Sound.{distinct, permutes, positioned, isNoMember, soundMembers};
 ghost use Rattle.member.specs.Views.{toMember, addrOf, blankAddress};
+ghost use Rattle.member.specs.Drawers.{Firsts};
 
 // Position below the length, or 0 if the list is empty.
 fn well_placed(position: usize, n: usize) -> bool
@@ -37,16 +39,47 @@ fn addresses(table: [Member; Members::CAPACITY]) -> [Address; Members::CAPACITY]
     out
 }
 
+// For each drawer the first place of the first n whose address belongs in it, so that the next one needs no scan. Any place will do for an empty one.
+fn first_places(order: &[Address; Members::CAPACITY], n: usize) -> [usize; 64]
+    requires { ⌜ (n ≤ 64) × (length (now order) ≡ 64) ⌝ }
+    ensures { λ r. ⌜ Firsts (now (order .entry)) n r 0 ⌝ }
+{
+    let mut out = [0usize; 64];
+    let mut i = n;
+    while 0 < i {
+        i -= 1;
+        out[address::drawer(order[i])] = i;
+    }
+    out
+}
+
+// The first place of an address, or n: at first sight where it is the first of its drawer, else by a scan.
+fn seek(order: &[Address; Members::CAPACITY], firsts: &[usize; 64], n: usize, a: Address) -> usize
+    requires { ⌜ (n ≤ 64) × (length (now order) ≡ 64) × Firsts (now order) n (now firsts) 0 ⌝ }
+    ensures { λ r. ⌜ r ≡ placeOf (here .same) a (take n (now (order .entry))) ⌝ }
+    ensures within { λ r. ⌜ r ≤ n ⌝ }
+{
+    let place = firsts[address::drawer(a)];
+    if n <= place {
+        return order::find_place(order, n, a);
+    }
+    if address::same(a, order[place]) {
+        return place;
+    }
+    order::find_place(order, n, a)
+}
+
 // Are the first n of a row distinct, and those of the order a permutation of them? One pass that marks: each is found in the order, at a place
 // that none before it was found at.
 fn matches(row: [Address; Members::CAPACITY], order: [Address; Members::CAPACITY], n: usize) -> bool
     requires { ⌜ n ≤ 64 ⌝ }
     ensures { λ r. ⌜ r ≡ (distinct (here .same) (take n row) && permutes (here .same) (take n order) (take n row)) ⌝ }
 {
+    let firsts = first_places(&order, n);
     let mut marks = [false; Members::CAPACITY];
     let mut i = 0;
     while i < n {
-        let place = order::find_place(&order, n, row[i]);
+        let place = seek(&order, &firsts, n, row[i]);
         if place == n {
             return false;
         }

@@ -90,6 +90,9 @@ fn verdict_at(members: Members, own: Address, deceased: Heap, lent: Lent, i: usi
     match sender {
         Optional::Absent => Verdict::Skip,
         Optional::Given(a) => {
+            if members.lists(a) {
+                return Verdict::Skip;
+            }
             let dead = disseminate::is_deceased(deceased, a);
             rules::judge_sender(members, dead, a)
         },
@@ -116,7 +119,7 @@ fn tell(heap: Heap, kind: Kind, news: News) -> Heap
         News::Silent => heap,
         News::Emits { kind: to, event } => {
             if disseminate::same_kind(to, kind) {
-                disseminate::emit(heap, Gossip { event })
+                heap.push(disseminate::entry_of(Gossip { event }))
             } else {
                 heap
             }
@@ -172,14 +175,13 @@ fn refused(node: Node, refusal: Refusal) -> Heard
 }
 
 // The records in their order and then the sender: each is judged, the list changes, and the news is pushed and reported.
-pub fn handle_gossip(mut node: Node, lent: Lent, draws: &[u64]) -> Heard
+pub fn handle_gossip(node: Node, lent: Lent, draws: &[u64]) -> Heard
     requires { ⌜ Ready node × Heeded (lent .rows) (lent .given) × (calls.validOption here (toOptional (lent .sender)) ≡ true) ⌝ }
     ensures { λ r. ⌜ r ≡ heardOf node (now (draws .entry)) (M.andMore (handler.gossip here (recordsOf (lent .rows) (lent .given)) (viewNode node) (now (draws .entry))) (senderRule (toOptional (lent .sender)))) ⌝ }
 {
     let mut members = node.members;
-    let spread = node.disseminator;
-    let mut alive = spread.alive;
-    let mut deceased = spread.deceased;
+    let mut alive = node.disseminator.alive;
+    let mut deceased = node.disseminator.deceased;
     let mut report = no_report();
     let mut used = 0;
     let mut i = 0;
@@ -203,12 +205,17 @@ pub fn handle_gossip(mut node: Node, lent: Lent, draws: &[u64]) -> Heard
         report = note(report, news);
         i += 1;
     }
-    node.members = members;
-    let after = Disseminator { alive, deceased };
-    node.disseminator = after;
+    let settings = node.settings;
+    let timers = node.timers;
     let events = report.events;
     Heard {
-        node,
+        node: Node {
+            settings,
+            own: node.own,
+            members,
+            disseminator: Disseminator { alive, deceased },
+            timers,
+        },
         events,
         reported: report.count,
         drew: Drew::Used(used),

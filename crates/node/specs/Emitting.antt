@@ -17,8 +17,7 @@ use Rattle.model.specs.Heap.{push}
 use Rattle.model.specs.Choose.{entryOf}
 use Rattle.model.specs.Node as M
 use Rattle.laws_node.specs.Good.{Good}
-use Rattle.disseminate.specs.declared.Pushed.{Pushed}
-use Rattle.disseminate.specs.Views.{heldOr, viewDisseminator, packDisseminator}
+use Rattle.disseminate.specs.Views.{heldOr, viewDisseminator, packDisseminator, Pushed}
 use Rattle.node.specs.declared.Node.{Node}
 use Rattle.node.specs.Views.{viewNode, packNode, withDisseminator}
 use Rattle.node.specs.Rows.{ready-pack, view-pack}

@@ -1,9 +1,11 @@
 -- What becomes of a ready node when a part of it is replaced: the packed node of the model's.
 -- Assumes nothing.
-use mathlib.Core.Path.{_≡_, refl, ap, sym, _∙_}
-use mathlib.Core.List.{List, [], _∷_}
+use mathlib.Core.Path.{_≡_, refl, ap, sym, _∙_, subst}
+use mathlib.Core.List.{List, [], _∷_, map}
 use Prim.Native.Nat.{ℕ}
-use Rattle.address.specs.Here.{Addr}
+use lib.ListN.{take, replicate}
+use Rattle.address.specs.Here.{Addr, here}
+use Rattle.types.specs.Views.{noGossip}
 use Rattle.model.specs.Words as W
 use Rattle.model.specs.Choose as choosing
 use Rattle.model.specs.Members as list
@@ -22,6 +24,12 @@ use Rattle.node.specs.declared.Node.{Node}
 use Rattle.node.specs.declared.parts.Spread.{Spread}
 use Rattle.node.specs.Views.{viewNode, packNode, withMembers, withDisseminator, withTimers, spreadOf}
 use Rattle.node.specs.Rows.{Ready}
+
+none-chosen : (t : choosing.Terms) (a d : List (W.Entry Addr)) → a ≡ [] → d ≡ [] → choosing.choose here t a d ≡ choosing.begin here a d
+unfolding choosing.choose choosing.rounds choosing.over
+none-chosen t a d e f =
+    subst (λ (x : List (W.Entry Addr)). choosing.choose here t x d ≡ choosing.begin here x d) (sym e)
+    (subst (λ (y : List (W.Entry Addr)). choosing.choose here t [] y ≡ choosing.begin here [] y) (sym f) refl)
 
 module _ (n : Node) (r : Ready n) where
   members-back : packMembers (viewMembers (n .members)) ≡ n .members
@@ -88,3 +96,16 @@ module _ (n : Node) (r : Ready n) where
   spread-is c k m e f =
       let q = f ∙ part-disseminator (record { alive = c .alive; deceased = c .deceased }) _ (λ i. record { alive = e i .alive; deceased = e i .deceased }) in
       λ i. record { node = q i; rows = e i .chosen .rows; count = e i .chosen .count }
+
+  -- no gossip is held: none is chosen, and the node is as it came
+  pub spread-none : (t : choosing.Terms) → n .disseminator .alive .len ≡ 0 → n .disseminator .deceased .len ≡ 0
+      → _≡_ {A = Spread} (record { node = n; rows = replicate 64 noGossip; count = 0 })
+      (let c = choosing.choose here t (heaps.heapView (n .disseminator .alive)) (heaps.heapView (n .disseminator .deceased)) in
+      spreadOf (record { node = M.withDisseminator (viewNode n) (record { alive = c .alive; deceased = c .deceased }); gossip = c .chosen }))
+  spread-none t a d =
+      let alive = ap (λ (k : ℕ). map heaps.toEntry (take k (n .disseminator .alive .entries))) a in
+      let deceased = ap (λ (k : ℕ). map heaps.toEntry (take k (n .disseminator .deceased .entries))) d in
+      let q = part-disseminator (viewDisseminator (n .disseminator)) (n .disseminator) (sym disseminator-back) in
+      (λ i. record { node = q i; rows = replicate 64 noGossip; count = 0 })
+      ∙ ap (λ (c : choosing.Choice Addr). spreadOf (record { node = M.withDisseminator (viewNode n) (record { alive = c .alive; deceased = c .deceased }); gossip = c .chosen }))
+      (sym (none-chosen t (heaps.heapView (n .disseminator .alive)) (heaps.heapView (n .disseminator .deceased)) alive deceased))

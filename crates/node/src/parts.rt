@@ -5,14 +5,16 @@ use disseminate::Disseminator;
 use member::Member;
 use member::Members;
 use model::State;
+use model::both;
 use timers::Timers;
+use types::Event;
 use types::Gossip;
 ghost use mathlib.Core.Path.{_≡_};
 ghost use Prim.Native.Nat.{_≤_};
 ghost use Rattle.address.specs.Here.{here};
 ghost use Rattle.model.specs.Node as M;
 ghost use Rattle.disseminate.specs.Fit.{most-chosen};
-ghost use Rattle.node.specs.Views.{viewNode, packNode, withMembers, withDisseminator, withTimers, spreadOf};
+ghost use Rattle.node.specs.Views.{viewNode, packNode, withMembers, withTimers, spreadOf};
 ghost use Rattle.node.specs.Rows.{Ready};
 
 impl Node {
@@ -21,21 +23,6 @@ impl Node {
     {
         let settings = self.settings;
         let disseminator = self.disseminator;
-        let timers = self.timers;
-        Node {
-            settings,
-            own: self.own,
-            members,
-            disseminator,
-            timers,
-        }
-    }
-
-    pub fn with_disseminator(self, disseminator: Disseminator) -> Node
-        ensures { λ r. ⌜ r ≡ withDisseminator self disseminator ⌝ }
-    {
-        let settings = self.settings;
-        let members = self.members;
         let timers = self.timers;
         Node {
             settings,
@@ -81,24 +68,43 @@ impl Node {
         ensures { λ r. ⌜ r ≡ spreadOf (M.spread here (viewNode self)) ⌝ }
         ensures within { λ r. ⌜ r .count ≤ most-chosen ⌝ }
     {
+        let quiet = both(
+            self.disseminator.alive.len == 0,
+            self.disseminator.deceased.len == 0,
+        );
+        if quiet {
+            let nothing = Gossip {
+                event: Event::Nothing,
+            };
+            return Spread {
+                node: self,
+                rows: [nothing; 64],
+                count: 0,
+            };
+        }
         let settings = self.settings;
         let members = self.members;
-        let held = self.disseminator;
-        let alive = held.alive;
-        let deceased = held.deceased;
+        let timers = self.timers;
+        let alive = self.disseminator.alive;
+        let deceased = self.disseminator.deceased;
         let choice = disseminate::get_gossip(alive, deceased, settings, members.len);
         let living = choice.alive;
         let dead = choice.deceased;
-        let chosen = choice.chosen;
-        let rows = chosen.rows;
-        let left = Disseminator {
-            alive: living,
-            deceased: dead,
-        };
+        let rows = choice.chosen.rows;
+        // Written out: handed over, the heaps would be copied once more.
         Spread {
-            node: self.with_disseminator(left),
+            node: Node {
+                settings,
+                own: self.own,
+                members,
+                disseminator: Disseminator {
+                    alive: living,
+                    deceased: dead,
+                },
+                timers,
+            },
             rows,
-            count: chosen.count,
+            count: choice.chosen.count,
         }
     }
 }

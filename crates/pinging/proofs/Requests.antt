@@ -28,8 +28,7 @@ use Rattle.types.specs.declared.Gossip.{Gossip}
 use Rattle.types.specs.Views.{toEvent, toGossip}
 use Rattle.model.specs.declared.Drew.the-variants as drew
 use Rattle.order.specs.declared.Exclusion.the-variants.{Peer}
-use Rattle.disseminate.specs.declared.Pushed.{Pushed}
-use Rattle.disseminate.specs.Views.{heldOr, viewDisseminator}
+use Rattle.disseminate.specs.Views.{heldOr, viewDisseminator, Pushed}
 use Rattle.member.specs.declared.Members.{Members}
 use Rattle.member.specs.declared.Picked.{Picked}
 use Rattle.member.specs.Views.{Held, packMembers, viewMembers, pickedAs, pickedOf}

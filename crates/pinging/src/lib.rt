@@ -1,8 +1,8 @@
 // Pings and ping requests: what is picked, changed and sent.
 use address::Address;
+use disseminate::Disseminator;
 use member::Member;
 use model::Drew;
-use model::Kind;
 use model::Refusal;
 use model::Reply;
 use model::State;
@@ -181,8 +181,7 @@ pub fn send_ping_req(
     let suspected = Gossip {
         event: Event::new_node_suspected(node.own, target, number),
     };
-    let disseminator = node.disseminator;
-    let pushed = disseminator.push(Kind::Alive, suspected);
+    let pushed = disseminate::grow(node.disseminator.alive, suspected);
     if pushed.full {
         return Stepped::plain(Reply::Refused(Refusal::HeapFull), node, wait);
     }
@@ -194,9 +193,16 @@ pub fn send_ping_req(
     let drew = picked.drew;
     match drew {
         Drew::Used(used) => {
-            let told = pushed.disseminator;
-            let listed = node.with_members(after);
-            let turned = listed.with_disseminator(told);
+            let timers = node.timers;
+            let alive = pushed.heap;
+            let deceased = node.disseminator.deceased;
+            let turned = Node {
+                settings,
+                own: node.own,
+                members: after,
+                disseminator: Disseminator { alive, deceased },
+                timers,
+            };
             ask_group(turned, picks, target, number, suspected, used, tick)
         }
         Drew::Refused(missed) => Stepped::plain(Reply::Refused(missed), node, wait),

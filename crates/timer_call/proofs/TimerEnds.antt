@@ -39,8 +39,7 @@ use Rattle.timers.specs.declared.Timer.{Timer}
 use Rattle.timers.specs.declared.Timers.{Timers}
 use Rattle.timers.specs.Views.{toTimer, fromTimer, noTimer, timersView, packTimers, endingOf}
 use Rattle.timers.specs.declared.Ending.the-variants.{Nothing, At}
-use Rattle.disseminate.specs.declared.Pushed.{Pushed}
-use Rattle.disseminate.specs.Views.{heldOr, viewDisseminator}
+use Rattle.disseminate.specs.Views.{heldOr, viewDisseminator, Pushed}
 use Rattle.member.specs.declared.Members.{Members}
 use Rattle.member.specs.Views.{packMembers, viewMembers}
 use Rattle.node.specs.declared.Node.{Node}

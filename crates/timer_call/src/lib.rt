@@ -1,7 +1,7 @@
 // The timer call: the earliest started timer that is over ends.
 use address::Address;
+use disseminate::Disseminator;
 use member::Members;
-use model::Kind;
 use model::Refusal;
 use model::Reply;
 use node::Answer;
@@ -74,15 +74,20 @@ fn end_at(node: Node, place: usize) -> Ended
     let gossip = Gossip {
         event: Event::new_node_deceased(node.own, timer.addr, timer.number),
     };
-    let disseminator = node.disseminator;
-    let pushed = disseminator.push(Kind::Deceased, gossip);
+    let pushed = disseminate::grow(node.disseminator.deceased, gossip);
     if pushed.full {
         return Ended::plain(Reply::Refused(Refusal::HeapFull), node);
     }
-    let told = pushed.disseminator;
-    let fewer = node.with_timers(after);
-    let gone = fewer.with_members(left);
-    let said = gone.with_disseminator(told);
+    let settings = node.settings;
+    let alive = node.disseminator.alive;
+    let deceased = pushed.heap;
+    let said = Node {
+        settings,
+        own: node.own,
+        members: left,
+        disseminator: Disseminator { alive, deceased },
+        timers: after,
+    };
     let events = [gossip; Ended::EVENTS];
     Ended {
         answer: Answer::plain(Reply::Done(0), said),

@@ -1,20 +1,21 @@
 -- `pinging::send_ping_req` meets its contract: 9, then 8, then the group is asked.
 -- Assumes nothing.
-use mathlib.Core.Path.{ap, _∙_}
+use mathlib.Core.Path.{refl, ap, _∙_}
 use Prim.Native.Nat.{_-_}
 use native.Mathlib.Omega.{arith}
 use borrow.Author.Needs.{needs}
-use Rattle.node.specs.declared.Node.{Node}
-use Rattle.node.specs.Views.{withDisseminator}
+use Rattle.types.specs.Views.{toGossip}
+use Rattle.disseminate.specs.declared.Grown.{Grown}
+use Rattle.disseminate.proofs.Pushing.{alive-pushed}
 use Rattle.wait.specs.Ends.{plain-gives}
 use Rattle.pinging.proofs.Requests.{Request, request-full, said-held, wanted-few, request-refused, request-ready, request-few, request-kept}
 use Rattle.pinging.proofs.send_ping_req.Statement.{statement}
 use Rattle.pinging.proofs.send_ping_req.Tie as tie
 
 -- what the code has when it has pushed
-abbrev request : tie.After-push → Request
+abbrev request : tie.After-grow → Request
 request p =
-    let g = p .before .before in
+    let g = p .before in
     let u = g .before in
     let s = u .before .before .before in
     record {
@@ -30,8 +31,9 @@ request p =
       members-is = u .update-member .ensures;
       gossip = record { event = g .new-node-suspected .result };
       named = g .new-node-suspected .ensures;
-      pushed = p .push .result;
-      pushed-is = p .push .ensures;
+      pushed = record { disseminator = record { alive = p .grow .result .heap; deceased = s .args .node .disseminator .deceased }; full = p .grow .result .full };
+      pushed-is = ap (λ (x : Grown). record { disseminator = record { alive = x .heap; deceased = s .args .node .disseminator .deceased }; full = x .full }) (p .grow .ensures)
+          ∙ alive-pushed (s .args .node .disseminator) (s .pre .0 .heaps) (toGossip (record { event = g .new-node-suspected .result }));
     }
 
 returns : tie.Need-returns
@@ -47,10 +49,9 @@ ask-group-requires c κs =
     let d = c .before .before .before .before in
     let k = d .before .before .before .before in
     let o = k .before .before in
-    let p = o .before in
-    let y = c .with-disseminator .ensures ∙ ap (λ (x : Node). withDisseminator x (p .push .result .disseminator)) (c .before .with-members .ensures) in (
-      request-ready (request p) (o .if1 .left) (k .get-member-list .result) (k .get-member-list .ensures) (d .drew .given .1) y,
-      request-few (request p) (o .if1 .left) (k .get-member-list .result) (k .get-member-list .ensures) (d .drew .given .1) y,
+    let p = o .before in (
+      request-ready (request p) (o .if1 .left) (k .get-member-list .result) (k .get-member-list .ensures) (d .drew .given .1) refl,
+      request-few (request p) (o .if1 .left) (k .get-member-list .result) (k .get-member-list .ensures) (d .drew .given .1) refl,
     )
 
 returns-2 : tie.Need-returns-2
@@ -60,9 +61,8 @@ returns-2 c =
     let k = d .before .before .before .before in
     let o = k .before .before in
     let p = o .before in
-    let y = t .with-disseminator .ensures ∙ ap (λ (x : Node). withDisseminator x (p .push .result .disseminator)) (t .before .with-members .ensures) in
     let g = c .ask-group .ensures in
-    record { is = g .is ∙ request-kept (request p) (o .if1 .left) (k .get-member-list .result) (k .get-member-list .ensures) (d .drew .given .1) y; written = g .written; reported = g .reported }
+    record { is = g .is ∙ request-kept (request p) (o .if1 .left) (k .get-member-list .result) (k .get-member-list .ensures) (d .drew .given .1) refl; written = g .written; reported = g .reported }
 
 returns-3 : tie.Need-returns-3
 returns-3 c =
@@ -82,8 +82,6 @@ send-ping-req-spec =
     returns
     get-member-list-requires
     (λ c. search needs)
-    (λ c κs. search needs)
-    (λ c κs. search needs)
     ask-group-requires
     (λ c. search needs)
     (λ c κs. search needs)

@@ -4,18 +4,18 @@ use mathlib.Core.Path.{_≡_, ap, _∙_}
 use mathlib.Core.List.{[], _∷_}
 use native.Mathlib.Omega.{arith}
 use borrow.Author.Needs.{needs}
-use Rattle.model.specs.declared.Reply.the-variants.{Done}
-use Rattle.node.specs.declared.Node.{Node}
-use Rattle.node.specs.Views.{plainAnswer, withMembers, withDisseminator}
+use Rattle.types.specs.Views.{toGossip}
+use Rattle.disseminate.specs.declared.Grown.{Grown}
+use Rattle.disseminate.proofs.Pushing.{deceased-pushed}
 use Rattle.timer_call.specs.declared.Ended.{Ended}
 use Rattle.timer_call.proofs.TimerEnds.{Death, end-full, end-kept}
 use Rattle.timer_call.proofs.end_at.Statement.{statement}
 use Rattle.timer_call.proofs.end_at.Tie as tie
 
 -- what the code has when it has pushed
-abbrev death : tie.After-push → Death
+abbrev death : tie.After-grow → Death
 death p =
-    let d = p .before .before in
+    let d = p .before in
     let w = d .before in
     let t = w .before .before in
     let s = t .before .before .before .before in
@@ -30,8 +30,9 @@ death p =
       members-is = w .without .ensures;
       gossip = record { event = d .new-node-deceased .result };
       named = d .new-node-deceased .ensures;
-      pushed = p .push .result;
-      pushed-is = p .push .ensures;
+      pushed = record { disseminator = record { alive = s .args .node .disseminator .alive; deceased = p .grow .result .heap }; full = p .grow .result .full };
+      pushed-is = ap (λ (x : Grown). record { disseminator = record { alive = s .args .node .disseminator .alive; deceased = x .heap }; full = x .full }) (p .grow .ensures)
+          ∙ deceased-pushed (s .args .node .disseminator) (s .pre .0 .heaps) (toGossip (record { event = d .new-node-deceased .result }));
     }
 
 returns : tie.Need-returns
@@ -39,14 +40,9 @@ returns c = (c .plain .ensures ∙ end-full (death (c .before .before)) (c .befo
 
 returns-2 : tie.Need-returns-2
 returns-2 c =
-    let h = c .before in
-    let m = h .before in
-    let r = m .before in
-    let o = r .before .before in
-    let q = death (o .before) in
-    let z = h .with-disseminator .ensures
-    ∙ ap (λ (x : Node). withDisseminator x (q .pushed .disseminator)) (m .with-members .ensures ∙ ap (λ (x : Node). withMembers x (q .members)) (r .with-timers .ensures)) in (
-      (λ i. record { answer = (c .plain2 .ensures ∙ ap (plainAnswer (Done 0)) z) i; events = q .gossip ∷ []; reported = 1 }) ∙ end-kept q (o .if1 .left),
+    let o = c .before .before .before .before in
+    let q = death (o .before) in (
+      (λ i. record { answer = c .plain2 .ensures i; events = q .gossip ∷ []; reported = 1 }) ∙ end-kept q (o .if1 .left),
       omega arith,
     )
 
@@ -62,8 +58,5 @@ end-at-spec =
     (λ c κs. search needs)
     (λ c κs. search needs)
     returns
-    (λ c κs. search needs)
-    (λ c κs. search needs)
-    (λ c κs. search needs)
     (λ c κs. search needs)
     returns-2)

@@ -52,7 +52,7 @@ abbrev μ-loop : tie.MeasureT-loop
 
 loop-holds : tie.Need-loop-holds Inv-loop μ-loop
 loop-holds c =
-    let s = c .before .before .before .before .before .before in
+    let s = c .before .before .before .before .before in
     let a = s .args in (
       omega arith,
       omega (arith, ap (λ (x : Report). x .count) (c .no-report .ensures)),
@@ -62,17 +62,17 @@ loop-holds c =
 many : (s : tie.Start Inv-loop μ-loop) → length (records (s .args .lent)) ≡ s .args .lent .given
 many s = records-long (s .args .lent .rows) (s .args .lent .given) (s .pre .1)
 
-is-due : (c : tie.Then1 Inv-loop μ-loop) → c .before .before .loop .i ≤ c .before .before .before .before .before .before .before .before .before .args .lent .given
+is-due : (c : tie.Then1 Inv-loop μ-loop) → c .before .before .loop .i ≤ c .before .before .before .before .before .before .before .before .args .lent .given
 is-due c = omega (arith, c .if1 .taken)
 
 verdict-at-requires : tie.Need-verdict-at-requires Inv-loop μ-loop
 verdict-at-requires c κs =
     let r = c .before .before .loop .inv .2 .ready in
-    (r .members, r .heaps .deceased, c .before .before .before .before .before .before .before .before .before .pre .1)
+    (r .members, r .heaps .deceased, c .before .before .before .before .before .before .before .before .pre .1)
 
 -- where a call starts, and the loop as a verdict is given
 abbrev start : tie.After-verdict-at Inv-loop μ-loop → tie.Start Inv-loop μ-loop
-start v = v .before .before .before .before .before .before .before .before .before .before
+start v = v .before .before .before .before .before .before .before .before .before
 
 abbrev all : tie.After-verdict-at Inv-loop μ-loop → Answer (M.Out Addr)
 all v = let a = start v .args in whole (a .node) (a .lent) (a .draws .now)
@@ -200,9 +200,9 @@ loop-again c =
 
 returns-3 : tie.Need-returns-3 Inv-loop μ-loop
 returns-3 c =
-    let e = c .before in
+    let e = c .before .before .before in
     let at = e .before .before .loop in
-    let s = e .before .before .before .before .before .before .before .before .before in
+    let s = e .before .before .before .before .before .before .before .before in
     let a = s .args in
     let all = whole (a .node) (a .lent) (a .draws .now) in
     let n = current (a .node) (at .members) (at .alive) (at .deceased) in

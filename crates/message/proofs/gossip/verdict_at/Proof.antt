@@ -1,6 +1,7 @@
 -- `message::gossip::verdict_at` meets its contract: a record, or the sender behind them.
 -- Assumes nothing.
 use mathlib.Core.Path.{_≡_, ap, sym, _∙_}
+use mathlib.Core.Bool.{Bool, true}
 use mathlib.Core.List.{[]}
 use mathlib.Core.Option.{Option}
 use Prim.Native.Nat.{ℕ}
@@ -8,6 +9,9 @@ use lib.ListN.{getD}
 use borrow.Author.Needs.{needs}
 use Rattle.address.specs.Here.{here}
 use Rattle.model.specs.Choose.{death}
+use Rattle.model.specs.Rows as rows
+use Rattle.model.specs.Node.{deathPlusOne}
+use Rattle.model.specs.Members as list
 use Rattle.model.specs.Handler as handler
 use Rattle.types.specs.declared.Optional.{Optional}
 use Rattle.types.specs.Views.{toEvent, toOptional, noGossip}
@@ -44,15 +48,30 @@ last c =
     let a = s .args in
     ap fromVerdict (sender-judged (a .own) (viewMembers (a .members) .table) (heapView (a .deceased)) (a .lent .rows) (a .lent .given) (s .pre .2) (toOptional (a .lent .sender)) (a .i) (c .if1 .left))
 
+-- a sender that is listed: D makes no difference
 returns-2 : tie.Need-returns-2
-unfolding verdictAt
-returns-2 c = let e = c .before .before in sym (ap (behind (e .before .before)) (c .enum-told .given .1)) ∙ last e
+unfolding verdictAt handler.judgeSender
+returns-2 c =
+    let o = c .before .before .before in
+    let e = o .before .before in
+    let s = e .before .before in
+    let a = s .args in
+    let from = o .sender .given .0 .0 in
+    let t = viewMembers (a .members) .table in
+    let listed : list.listed (here .same) from t ≡ true = sym (c .before .lists .ensures) ∙ c .if2 .taken in
+    ap fromVerdict (sym (ap (λ (u : Bool). rows.pick u handler.Skip (handler.orEnd (deathPlusOne (death here from (heapView (a .deceased)))) (handler.Enter from))) listed))
+    ∙ sym (ap (behind s) (o .sender .given .1))
+    ∙ last e
 
 returns-3 : tie.Need-returns-3
 unfolding verdictAt
-returns-3 c =
+returns-3 c = let e = c .before .before in sym (ap (behind (e .before .before)) (c .enum-told .given .1)) ∙ last e
+
+returns-4 : tie.Need-returns-4
+unfolding verdictAt
+returns-4 c =
     let d = c .before in
-    let o = d .before .before in
+    let o = d .before .before .before .before in
     let e = o .before .before in
     let s = e .before .before in
     let a = s .args in
@@ -74,6 +93,8 @@ verdict-at-spec =
     (λ c. search needs)
     (λ c. search needs)
     (λ c κs. search needs)
-    (λ c κs. search needs)
     returns-2
-    returns-3)
+    (λ c κs. search needs)
+    (λ c κs. search needs)
+    returns-3
+    returns-4)
