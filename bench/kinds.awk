@@ -14,6 +14,11 @@ BEGIN {
   words["step-await-reqack"] = "step, waiting for PingReqAck"
   words["step-declare"] = "step, Declaring"
   words["timer"] = "timer call"
+  words["read"] = "read a datagram"
+  words["write"] = "write a datagram"
+  words["unknown"] = "read one of unknown fields"
+  words["repeated"] = "read one of the same record over and over"
+  words["nested"] = "read one of unknown fields, four levels deep"
   words["preparing"] = "what prepares these: adds, steps, Acks of 61 records"
   words["stored"] = "any call of the stored list"
 }

@@ -3,9 +3,10 @@
 folder=target/oracle
 oracle=$folder/oracle
 
-# Each seed gives this many nodes and calls.
+# Each seed gives this many nodes and calls, or this many lines of bytes.
 nodes=50
 calls=10000
+lines=20000
 
 # So many seeds at a time.
 jobs=${JOBS:-2}
@@ -27,11 +28,16 @@ same_answers() {
   fail "$4: the answers to $3 differ"
 }
 
-# Script $1 through both; $2 says which one it is.
-compare_one() {
+# Script $1 through both, whose answers stay beside it; $2 says which one it is.
+answer_same() {
   "$oracle" run <"$1" >"$1.oracle"
   "$replay" <"$1" >"$1.replay" || fail "$replay failed on $1 ($2)"
   same_answers "$1.oracle" "$1.replay" "$1" "oracle and replay, $2"
+}
+
+# The same for a script that is done with then.
+compare_one() {
+  answer_same "$@"
   rm "$1" "$1.oracle" "$1.replay"
 }
 
@@ -42,15 +48,51 @@ fresh_seed() {
 compare_seed() {
   local script=$folder/fresh.$1
   "$oracle" gen "$1" $nodes $calls >"$script" 2>/dev/null
-  compare_one "$script" "seed $1 (oracle gen $1 $nodes $calls)"
-  echo "seed $1: $calls calls, no difference"
+  answer_same "$script" "seed $1 (oracle gen $1 $nodes $calls)"
+  carry_heard "$script"
+  carry_sent "$script.replay"
+  rm "$script" "$script.oracle" "$script.replay"
+  echo "seed $1: $calls calls, no difference, their messages through bytes both ways"
 }
 
-# Each of the seeds given, `jobs` at a time.
+# Bytes read and written on seed $1.
+compare_bytes() {
+  local script=$folder/bytes.$1
+  "$oracle" bytes "$1" $lines >"$script" 2>"$script.tally" ||
+    { cat "$script.tally" >&2; fail "not everything comes up in oracle bytes $1 $lines"; }
+  compare_one "$script" "seed $1 (oracle bytes $1 $lines)"
+  rm "$script.tally"
+  echo "seed $1: $lines lines of bytes, no difference"
+}
+
+# What the calls of script $1 hear, as prost writes it, is read by the other program.
+carry_heard() {
+  grep -E '^(ping|req|ack) ' "$1" | sed 's/ |.*//' >"$1.heard"
+  "$oracle" encode <"$1.heard" >"$1.read"
+  "$replay" <"$1.read" | sed -n 's/^< //p' >"$1.back"
+  same_answers "$1.heard" "$1.back" "$1" "what was heard and what was read of prost's bytes"
+  rm "$1.heard" "$1.read" "$1.back"
+}
+
+# What answers $1 send, as the other program writes it, is read by prost.
+carry_sent() {
+  sed -n 's/^> [0-9]* //p' "$1" >"$1.sent"
+  sed 's/^/write 65536 /' "$1.sent" | "$replay" | sed -n 's/^< //p' | "$oracle" decode >"$1.back"
+  same_answers "$1.sent" "$1.back" "$1" "what was sent and what prost read of its bytes"
+  rm "$1.sent" "$1.back"
+}
+
+# Calls on each of the seeds given.
 compare_seeds() {
-  local seed running=()
+  each_seed compare_seed "$@"
+}
+
+# Comparison $1 on each of the seeds after it, `jobs` at a time.
+each_seed() {
+  local seed running=() comparison=$1
+  shift
   for seed in "$@"; do
-    compare_seed "$seed" &
+    "$comparison" "$seed" &
     running+=($!)
     [ ${#running[@]} -lt "$jobs" ] || { all_well "${running[@]}"; running=(); }
   done

@@ -6,7 +6,8 @@ use Prim.Native.Nat.{ℕ, _≤_}
 use lib.ListN.{length}
 use Rattle.model.specs.Words.{Address, Lawful}
 use Rattle.address.specs.IPv4.{ipv4, ipv4-lawful, drawer}
-use Rattle.address.specs.TextLaws.{text, text-length, text-is-long}
+use Rattle.address.specs.Text.{text}
+use Rattle.address.specs.TextLaws.{text-length, text-is-long}
 
 abbrev pub Addr : Type 0
 Addr = ℕ

@@ -1,3 +1,4 @@
 pub mod IPv4
+pub mod Text
 pub mod TextLaws
 pub mod Here

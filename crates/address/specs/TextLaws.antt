@@ -1,4 +1,4 @@
--- The text a.b.c.d:port of an address, byte by byte, and how long it can be.
+-- How long the text of an address is.
 -- Assumes nothing.
 use mathlib.Core.Path.{_≡_, refl}
 use mathlib.Core.Bool.{Bool, true, false}
@@ -10,6 +10,7 @@ use lib.Dec.{ltb}
 use borrow.Author.Tests.{ltb-false, ltb-true}
 use Rattle.model.specs.Rows.{pick}
 use Rattle.address.specs.IPv4.{digits, octet, port, textLength}
+use Rattle.address.specs.Text.{decimalIn, decimal, text}
 
 pick-elim : (P : ℕ → Type 0) (b : Bool) (x y : ℕ) → (b ≡ true → P x) → (b ≡ false → P y) → P (pick b x y)
 pick-elim P true x y f g = f refl
@@ -47,24 +48,6 @@ text-length a =
     let a0 = octet-three a 0 in
     let p = digits-few (port a) in
     (omega arith, omega arith)
-
--- a number in decimal, f digits more at most: 48 is the byte of 0
-unfoldable pub decimalIn : ℕ → ℕ → List ℕ
-decimalIn zero n = (n + 48) ∷ []
-decimalIn (suc f) n = elim (ltb n 10) [ true ↦ (n + 48) ∷ [] | false ↦ decimalIn f (n / 10) ++ ((n % 10 + 48) ∷ []) ]
-
--- five digits are enough for a port
-abbrev pub decimal : ℕ → List ℕ
-decimal n = decimalIn 4 n
-
--- 46 is a dot, and 58 a colon
-abbrev pub text : ℕ → List ℕ
-text a =
-    decimal (octet a 3)
-    ++ (46 ∷ decimal (octet a 2))
-    ++ (46 ∷ decimal (octet a 1))
-    ++ (46 ∷ decimal (octet a 0))
-    ++ (58 ∷ decimal (port a))
 
 one : (f n : ℕ) → n < 10 → length (decimalIn f n) ≡ 1
 unfolding decimalIn

@@ -6,6 +6,7 @@ use Prim.Native.Nat.{ℕ, suc, _+_, _-_, _≤_, _<_}
 use native.Mathlib.Omega.{arith}
 use lib.Dec.{eqb, leb}
 use lib.ListN.{length}
+use Rattle.model.specs.Bounds.{greatest-size}
 use Rattle.model.specs.Rows.{one, pick}
 use Rattle.address.specs.Here.{Addr, here}
 use Rattle.model.specs.Words as W
@@ -40,7 +41,7 @@ module _ (t : Terms) where
       Packed d →
       GoodHeap here kind.Alive (heapView a) →
       GoodHeap here kind.Deceased (heapView d) →
-      t .«max_size» ≤ 1400 →
+      t .«max_size» ≤ greatest-size →
       t .limit ≤ 23 →
       n ≡ chosenNone →
       Going (choose here (toTerms t) (heapView a) (heapView d)) (fresh a d n) 64

@@ -11,6 +11,7 @@ use lib.Dec.{ltb}
 use lib.ListN.{drop, take, List·getD-map}
 use lib.Seq.{drop-cons, getD-take}
 use borrow.Author.Tests.{ltb-false, leb-true}
+use Rattle.model.specs.Bounds.{greatest-size}
 use Rattle.model.specs.Rows.{every, one, pick}
 use Rattle.address.specs.Here.{Addr, here}
 use Rattle.model.specs.Words as W
@@ -82,7 +83,7 @@ module _ (t : Terms) (h : Heap) (n : Chosen) (o : Open t h n) where
   pub empty : h .len ≡ 0 → tried ≡ none
   empty e = try-empty (toTerms t) _ _ (heapView h) (view-length h (o .heap) ∙ e)
 
-  pub in-size : n .size ≤ 1400
+  pub in-size : n .size ≤ greatest-size
   in-size = omega (arith, o .fits, o .size)
 
   -- what stops the top
@@ -95,10 +96,10 @@ module _ (t : Terms) (h : Heap) (n : Chosen) (o : Open t h n) where
   without-top = takeTop here (t .limit) (toEntry (topOf h)) (heapView h)
 
   module _ (held : 0 < h .len) where
-    pub top-small : (topOf h .size ≤ 1400) × (topOf h .sends ≤ 22)
+    pub top-small : (topOf h .size ≤ greatest-size) × (topOf h .sends ≤ 22)
     top-small = let m = o .top held in (omega (arith, m .1), m .2)
 
-    -- an entry of 24 bytes that is not stopped finds room: 58 of them are the most
+    -- an entry of 24 bytes that is not stopped finds room: 57 of them are the most
     pub finds-room : barrier ≡ false → Room n (topOf h)
     finds-room b =
         let f : n .size + topOf h .size ≤ t .«max_size» = ltb-false (t .«max_size») (n .size + topOf h .size) (or-left _ _ b) in

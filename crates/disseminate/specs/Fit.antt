@@ -1,4 +1,4 @@
--- How many gossip records a message has at most, by the least size of one: 58 at IPv4 addresses, so that 64 places are enough.
+-- How many gossip records a message has at most, by the least size of one: 57 at IPv4 addresses, so that 64 places are enough.
 -- Assumes nothing.
 use mathlib.Core.Path.{_≡_, refl, ap, sym, _∙_}
 use mathlib.Core.Bool.{Bool, true, false, _&&_}

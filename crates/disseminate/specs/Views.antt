@@ -9,6 +9,7 @@ use lib.ListN.{length, getD, take, replicate}
 use lib.Dec.{leb}
 use Rattle.model.specs.declared.Kind.{Kind}
 use Rattle.model.specs.declared.Kind.the-variants as kind
+use Rattle.model.specs.Bounds.{greatest-size}
 use Rattle.model.specs.Rows.{pick, padTo}
 use Rattle.model.specs.Answers.{Answer, refused, done}
 use Rattle.address.specs.Here.{Addr, here}
@@ -163,7 +164,7 @@ topOf h = getD (h .entries) 0 noEntry
 
 -- an entry finds room among what is chosen
 abbrev pub Room : Chosen → Entry → Type 0
-Room n e = PackedChosen n × (n .count < 64) × (n .size ≤ 1400) × (e .size ≤ 1400) × (e .sends ≤ 22)
+Room n e = PackedChosen n × (n .count < 64) × (n .size ≤ greatest-size) × (e .size ≤ greatest-size) × (e .sends ≤ 22)
 
 -- an entry is chosen with one send more, where it is given
 abbrev pub NotedIf : Bool → Chosen → Entry → Chosen → Type 0
@@ -177,7 +178,7 @@ pub record Open (t : Terms) (h : Heap) (n : Chosen) : Type 0 where
   pub chosen : PackedChosen n
   pub counted : 24 * n .count ≤ n .size
   pub fits : n .size ≤ t .«max_size»
-  pub size : t .«max_size» ≤ 1400
+  pub size : t .«max_size» ≤ greatest-size
 
 -- what holds of a choosing at each step: good heaps, and chosen gossip that fits, 24 bytes each at least
 pub record Kept (t : M.Terms) (m : M.Choice Addr) : Type 0 where
@@ -190,6 +191,6 @@ pub record Ready (t : Terms) (c : Choice) : Type 0 where
   pub alive : Packed (c .alive)
   pub deceased : Packed (c .deceased)
   pub chosen : PackedChosen (c .chosen)
-  pub size : t .«max_size» ≤ 1400
+  pub size : t .«max_size» ≤ greatest-size
   pub limit : t .limit ≤ 23
   pub kept : Kept (toTerms t) (choiceView c)

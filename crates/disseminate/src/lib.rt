@@ -10,6 +10,7 @@ ghost use mathlib.Core.Path.{_≡_};
 ghost use mathlib.Core.Bool.{Bool, true, false, _&&_, _||_};
 ghost use Prim.Native.Nat.{ℕ, _+_, _≤_, _<_};
 ghost use lib.Dec.{eqb, leb, ltb};
+ghost use Rattle.model.specs.Bounds.{greatest-size};
 ghost use Rattle.model.specs.Rows.{one, pick};
 ghost use Rattle.address.specs.Here.{here};
 ghost use Rattle.model.specs.Limit.{limitOf};
@@ -231,7 +232,7 @@ fn noted(
 
 // Must an entry wait: would it pass the size, or was it noted?
 fn barred(n: Chosen, top: Entry, max_size: u64) -> bool
-    requires { ⌜ PackedChosen n × (n .size ≤ 1400) × (top .size ≤ 1400) ⌝ }
+    requires { ⌜ PackedChosen n × (n .size ≤ greatest-size) × (top .size ≤ greatest-size) ⌝ }
     ensures { λ r. ⌜ r ≡ (ltb «max_size» (n .size + top .size) || wasNoted here (toGossip (top .gossip)) (top .sends) (notedOf (n .rows) (n .sent) (n .count))) ⌝ }
 {
     if max_size < n.size + top.size {
@@ -341,7 +342,7 @@ fn over(held: usize, from_alive: usize, from_deceased: usize, t: Terms) -> bool
 
 // Gossip for one message: rounds of one try at each heap, while one of them gives. Each but the last chooses one at least.
 pub fn choose(alive: Heap, deceased: Heap, t: Terms) -> Choice
-    requires { ⌜ Packed alive × Packed deceased × GoodHeap here kind.Alive (heapView alive) × GoodHeap here kind.Deceased (heapView deceased) × (t .«max_size» ≤ 1400) × (t .limit ≤ 23) ⌝ }
+    requires { ⌜ Packed alive × Packed deceased × GoodHeap here kind.Alive (heapView alive) × GoodHeap here kind.Deceased (heapView deceased) × (t .«max_size» ≤ greatest-size) × (t .limit ≤ 23) ⌝ }
     ensures { λ r. ⌜ r ≡ packChoice (chosenFrom here (toTerms t) (heapView alive) (heapView deceased)) ⌝ }
 {
     let mut a = alive;

@@ -39,7 +39,7 @@ use Rattle.types.specs.declared.Gossip.{Gossip}
 use Rattle.types.proofs.Gossip as G
 use Rattle.types.proofs.Gossip.Laws as G′
 use Rattle.lent.proofs.Rows.{arr-out, arr-in}
-use Rattle.swim.proofs.Writing.{rval}
+use Rattle.lent.proofs.Writing.{rval}
 use Rattle.lender.proofs.Values.{gvals}
 
 -- what is behind the first k of an array at (b, 0), and what the lender keeps of these

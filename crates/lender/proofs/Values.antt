@@ -26,7 +26,7 @@ use Rattle.node.proofs.Node.Laws as N′
 use Rattle.node.proofs.Answer as R
 use Rattle.node.proofs.Answer.Laws as R′
 use Rattle.swim.specs.declared.Outcome.{Outcome}
-use Rattle.swim.proofs.Writing.{nameOf, tysOf, field-part}
+use Rattle.lent.proofs.Writing.{nameOf, tysOf, field-part}
 use Rattle.swim.proofs.Outcome as O
 use Rattle.swim.proofs.Outcome.Laws as O′
 

@@ -1,6 +1,5 @@
 // The handler: what a message does to a node, by value.
 pub mod gossip;
-pub mod tests;
 
 use address::Address;
 use gossip::Heard;
@@ -342,10 +341,10 @@ pub fn receive(
     if Received::GOSSIP < given {
         return refused(node, Refusal::ManyRecords);
     }
-    if !tests::valid_action(action) {
+    if !ranges::valid_action(action) {
         return refused(node, Refusal::AddressRange);
     }
-    if !tests::valid_rows(rows, given) {
+    if !ranges::valid_rows(rows, given) {
         return refused(node, Refusal::AddressRange);
     }
     dispatch_action(node, action, rows, given, draws)

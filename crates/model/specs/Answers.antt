@@ -1,12 +1,12 @@
--- "The ten refusals", and how a rule answers.
+-- The refusals, and how a rule answers.
 -- Assumes nothing.
 use mathlib.Core.Bool.{Bool, true, false}
 use mathlib.Core.List.{List, [], _∷_}
 use Prim.Native.Nat.{ℕ}
 use Rattle.model.specs.declared.Refusal.{Refusal}
-use Rattle.model.specs.declared.Refusal.the-variants.{Setting, Unsound, ShortRow, ManyRecords, AddressRange, NumberEnd, ListFull, DrawsShort, HeapFull, TimersFull}
+use Rattle.model.specs.declared.Refusal.the-variants.{Setting, Unsound, ShortRow, ManyRecords, AddressRange, NumberEnd, ListFull, DrawsShort, HeapFull, TimersFull, Malformed, NoRoom}
 
--- the scope's table: the number of each refusal
+-- the table: the number of each refusal. A node's calls give 1 to 10; 11 and 12 are of bytes that are no datagram, and of bytes that the lent row has no room for
 abbrev pub numberOf : Refusal → ℕ
 numberOf Setting = 1
 numberOf Unsound = 2
@@ -18,6 +18,8 @@ numberOf ListFull = 7
 numberOf DrawsShort = 8
 numberOf HeapFull = 9
 numberOf TimersFull = 10
+numberOf Malformed = 11
+numberOf NoRoom = 12
 
 -- a rule's answer: a refusal, or what it gives and the draws that are left
 pub data Answer (B : Type 0) : Type 0 where

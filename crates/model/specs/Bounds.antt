@@ -30,7 +30,7 @@ last-number = 2 ^ 64 - 1
 abbrev pub ticks : ℕ
 ticks = 2 ^ 32
 
--- "Settings: four waits below 2^31 ticks, group 0 to 4, send constant 0 to 8, max_selected 1 to 64, max_size 59 to 1400."
+-- "Settings: four waits below 2^31 ticks, group 0 to 4, send constant 0 to 8, max_selected 1 to 64, max_size 59 to 1373."
 abbrev pub wait-end : ℕ
 wait-end = 2 ^ 31
 
@@ -47,7 +47,7 @@ abbrev pub least-size : ℕ
 least-size = 59
 
 abbrev pub greatest-size : ℕ
-greatest-size = 1400
+greatest-size = 1373
 
 -- "a message call needs 64 gossip and 65 event records, a detector step 256 and 1, a timer call 0 and 1": the places of its rows
 pub record Room : Type 0 where

@@ -16,7 +16,7 @@ use Rattle.model.specs.Heap.{inOrder}
 use Rattle.model.specs.Members.{addrs}
 use Rattle.model.specs.Node.{Row, Stored, inUse}
 
--- "Settings: four waits below 2^31 ticks, group 0 to 4, send constant 0 to 8, max_selected 1 to 64, max_size 59 to 1400."
+-- "Settings: four waits below 2^31 ticks, group 0 to 4, send constant 0 to 8, max_selected 1 to 64, max_size 59 to 1373."
 unfoldable pub inRange : Settings → Bool
 inRange c =
     ltb (c .«ping_interval») wait-end

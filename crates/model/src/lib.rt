@@ -16,7 +16,7 @@ pub enum Kind {
     Deceased,
 }
 
-// The ten refusals, in the order of their numbers.
+// The refusals, in the order of their numbers.
 pub enum Refusal {
     Setting,
     Unsound,
@@ -28,6 +28,8 @@ pub enum Refusal {
     DrawsShort,
     HeapFull,
     TimersFull,
+    Malformed,
+    NoRoom,
 }
 
 // How a call ended: kept, with how many draws it used; kept with nothing to do; or refused.
@@ -70,7 +72,7 @@ impl Settings {
 
     pub const LEAST_SIZE: usize = 59;
 
-    pub const GREATEST_SIZE: usize = 1400;
+    pub const GREATEST_SIZE: usize = 1373;
 }
 
 // A refusal's number in the table of refusals.
@@ -88,6 +90,8 @@ pub fn refusal_number(refusal: Refusal) -> u8
         Refusal::DrawsShort => 8,
         Refusal::HeapFull => 9,
         Refusal::TimersFull => 10,
+        Refusal::Malformed => 11,
+        Refusal::NoRoom => 12,
     }
 }
 

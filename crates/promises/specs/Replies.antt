@@ -5,7 +5,7 @@ use Prim.Native.Nat.{ℕ}
 use native.Mathlib.Omega.{arith}
 use lib.Dec.{eqb}
 use Rattle.model.specs.declared.Refusal.{Refusal}
-use Rattle.model.specs.declared.Refusal.the-variants.{Setting, Unsound, ShortRow, ManyRecords, AddressRange, NumberEnd, ListFull, DrawsShort, HeapFull, TimersFull}
+use Rattle.model.specs.declared.Refusal.the-variants.{Setting, Unsound, ShortRow, ManyRecords, AddressRange, NumberEnd, ListFull, DrawsShort, HeapFull, TimersFull, Malformed, NoRoom}
 use Rattle.model.specs.declared.Reply.{Reply}
 use Rattle.model.specs.declared.Reply.the-variants.{Done, Already, NotDue, Refused}
 use Rattle.model.specs.Rows.{pick}
@@ -48,7 +48,9 @@ named n =
     (pick (eqb n 6) NumberEnd
     (pick (eqb n 7) ListFull
     (pick (eqb n 8) DrawsShort
-    (pick (eqb n 9) HeapFull TimersFull))))))))
+    (pick (eqb n 9) HeapFull
+    (pick (eqb n 10) TimersFull
+    (pick (eqb n 11) Malformed NoRoom))))))))))
 
 named-is : (x : Refusal) → named (numberOf x) ≡ x
 unfolding named
@@ -62,6 +64,8 @@ named-is ListFull = refl
 named-is DrawsShort = refl
 named-is HeapFull = refl
 named-is TimersFull = refl
+named-is Malformed = refl
+named-is NoRoom = refl
 
 pub same-number : (r x : Refusal) → numberOf r ≡ numberOf x → r ≡ x
 same-number r x e = sym (named-is r) ∙ ap named e ∙ named-is x
@@ -77,3 +81,5 @@ not-zero ListFull e = absurd (omega arith)
 not-zero DrawsShort e = absurd (omega arith)
 not-zero HeapFull e = absurd (omega arith)
 not-zero TimersFull e = absurd (omega arith)
+not-zero Malformed e = absurd (omega arith)
+not-zero NoRoom e = absurd (omega arith)

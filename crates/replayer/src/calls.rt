@@ -9,6 +9,8 @@ use show::least;
 use show::put_answer;
 use show::put_events;
 use show::put_one;
+use show::put_reading;
+use show::put_writing;
 use show::widen;
 use text::Command;
 use text::Phase;
@@ -220,7 +222,52 @@ fn lend_rows(host: Host, gossip: usize, events: usize) -> Host {
     }
 }
 
-pub fn obey(host: Host, command: Command, records: Records, draws: &[u64], out: &mut [u8]) -> Host {
+// The reader's call: it needs no node, and no state follows.
+fn read(mut host: Host, places: usize, bytes: &[u8], out: &mut [u8]) -> Host {
+    let taken = incoming::read(bytes, places);
+    let row = taken.row;
+    let answer = taken.answer;
+    let end = put_reading(out, host.unwritten, answer, row);
+    host.unwritten = end;
+    host
+}
+
+fn read_first(host: Host, places: usize, bytes: &[u8], length: usize, out: &mut [u8]) -> Host {
+    if length <= bytes.len() {
+        return read(host, places, &bytes[0..length], out);
+    }
+    host.at_odds(out)
+}
+
+// The writer's call, likewise.
+fn write(
+    mut host: Host,
+    room: usize,
+    action: Action,
+    records: Records,
+    bytes: &mut [u8],
+    out: &mut [u8],
+) -> Host {
+    if room <= bytes.len() {
+        let row = records.rows;
+        let writing = outgoing::send(&mut bytes[0..room], action, row, records.given);
+        let end = put_writing(out, host.unwritten, writing, bytes);
+        host.unwritten = end;
+        return host;
+    }
+    host.at_odds(out)
+}
+
+// Answers a line, whose bytes, so many, stand at the front of their row.
+pub fn obey(
+    host: Host,
+    command: Command,
+    records: Records,
+    draws: &[u64],
+    bytes: &mut [u8],
+    length: usize,
+    out: &mut [u8],
+) -> Host {
     match command {
         Command::Malformed => host.at_odds(out),
         Command::New {
@@ -235,5 +282,7 @@ pub fn obey(host: Host, command: Command, records: Records, draws: &[u64], out: 
         Command::Timer { now } => end_timer(host, now, out),
         Command::Wait { phase, tick } => lend_wait(host, phase, tick),
         Command::Rows { gossip, events } => lend_rows(host, gossip, events),
+        Command::Read { places } => read_first(host, places, bytes, length, out),
+        Command::Write { room, action } => write(host, room, action, records, bytes, out),
     }
 }

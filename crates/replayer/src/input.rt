@@ -28,13 +28,27 @@ fn keep_byte(line: &mut [u8], at: usize, byte: u8) -> usize {
     line.len() + 1
 }
 
-fn answer_line(host: Host, line: &[u8], out: &mut [u8], draws: &mut [u64]) -> Host {
-    let read = read_line(line, draws);
+fn answer_line(
+    host: Host,
+    line: &[u8],
+    out: &mut [u8],
+    draws: &mut [u64],
+    bytes: &mut [u8],
+) -> Host {
+    let read = read_line(line, draws, bytes);
     let command = read.command;
     let records = read.records;
     let drawn = read.drawn;
     if drawn <= draws.len() {
-        return obey(host, command, records, &draws[0..drawn], out);
+        return obey(
+            host,
+            command,
+            records,
+            &draws[0..drawn],
+            bytes,
+            read.length,
+            out,
+        );
     }
     host.at_odds(out)
 }
@@ -46,6 +60,7 @@ fn end_line(
     line: &mut [u8],
     out: &mut [u8],
     draws: &mut [u64],
+    bytes: &mut [u8],
 ) -> Host {
     host.line = std::num::wrapping_add_u64(host.line, 1);
     host.kept = 0;
@@ -61,7 +76,7 @@ fn end_line(
     if line.len() < kept {
         return host.at_odds(out);
     }
-    answer_line(host, &line[0..kept], out, draws)
+    answer_line(host, &line[0..kept], out, draws, bytes)
 }
 
 // A line, or the part of one: what goes on in the next chunk waits for its end.
@@ -72,10 +87,11 @@ fn take_part(
     line: &mut [u8],
     out: &mut [u8],
     draws: &mut [u64],
+    bytes: &mut [u8],
 ) -> Host {
     let kept = keep(line, host.kept, part);
     if is_whole {
-        return end_line(host, kept, line, out, draws);
+        return end_line(host, kept, line, out, draws, bytes);
     }
     host.kept = kept;
     host
@@ -95,35 +111,49 @@ fn take_chunk(
     line: &mut [u8],
     out: &mut [u8],
     draws: &mut [u64],
+    bytes: &mut [u8],
 ) -> Host {
     let mut at = 0;
     while at < chunk.len() {
         let feed = find(chunk, at, b'\n');
         let is_whole = feed < chunk.len();
-        let next = take_part(host, &chunk[at..feed], is_whole, line, out, draws);
+        let next = take_part(host, &chunk[at..feed], is_whole, line, out, draws, bytes);
         host = next;
         at = past(chunk, feed);
     }
     host
 }
 
-// Reads once and answers the lines that end there; what is answered goes out before the next read.
+// Answers the lines that end in a chunk; what is answered goes out before the next read.
+fn answer_chunk(
+    host: Host,
+    chunk: &[u8],
+    line: &mut [u8],
+    out: &mut [u8],
+    draws: &mut [u64],
+    bytes: &mut [u8],
+) -> Host {
+    let mut after = take_chunk(host, chunk, line, out, draws, bytes);
+    let at = flush(out, after.unwritten);
+    after.unwritten = at;
+    after
+}
+
+// Reads once and answers the lines that end there.
 fn read_some(
     mut host: Host,
     chunk: &mut [u8],
     line: &mut [u8],
     out: &mut [u8],
     draws: &mut [u64],
+    bytes: &mut [u8],
 ) -> Host {
     let got = io::count(libc::read(STDIN_FILENO, chunk), chunk);
     if got == 0 {
         host.has_ended = true;
         return host;
     }
-    let mut after = take_chunk(host, &chunk[..got], line, out, draws);
-    let at = flush(out, after.unwritten);
-    after.unwritten = at;
-    after
+    answer_chunk(host, &chunk[..got], line, out, draws, bytes)
 }
 
 // A proved loop has to end, and nothing says that the input does: it counts down from a number that no run uses up.
@@ -133,11 +163,12 @@ fn answer_all(
     line: &mut [u8],
     out: &mut [u8],
     draws: &mut [u64],
+    bytes: &mut [u8],
 ) -> Host {
     let mut turns = u64::MAX;
     while turns > 0 {
         turns -= 1;
-        let next = read_some(host, chunk, line, out, draws);
+        let next = read_some(host, chunk, line, out, draws, bytes);
         if next.has_ended {
             return next;
         }
@@ -147,19 +178,26 @@ fn answer_all(
 }
 
 // A last line without a line feed is taken.
-fn end_input(host: Host, line: &mut [u8], out: &mut [u8], draws: &mut [u64]) {
+fn end_input(host: Host, line: &mut [u8], out: &mut [u8], draws: &mut [u64], bytes: &mut [u8]) {
     let kept = host.kept;
     if kept == 0 {
         return;
     }
-    let last = end_line(host, kept, line, out, draws);
+    let last = end_line(host, kept, line, out, draws, bytes);
     flush(out, last.unwritten);
 }
 
-fn replay(is_quiet: bool, chunk: &mut [u8], line: &mut [u8], out: &mut [u8], draws: &mut [u64]) {
+fn replay(
+    is_quiet: bool,
+    chunk: &mut [u8],
+    line: &mut [u8],
+    out: &mut [u8],
+    draws: &mut [u64],
+    bytes: &mut [u8],
+) {
     let host = Host::new(is_quiet);
-    let after = answer_all(host, chunk, line, out, draws);
-    end_input(after, line, out, draws);
+    let after = answer_all(host, chunk, line, out, draws, bytes);
+    end_input(after, line, out, draws, bytes);
 }
 
 fn is_quiet() -> bool {
@@ -174,5 +212,13 @@ pub fn run() {
     let mut line = io::large_buffer();
     let mut out = io::large_buffer();
     let mut draws = [0u64; 1024];
-    replay(is_quiet(), &mut chunk, &mut line, &mut out, &mut draws);
+    let mut bytes = io::large_buffer();
+    replay(
+        is_quiet(),
+        &mut chunk,
+        &mut line,
+        &mut out,
+        &mut draws,
+        &mut bytes,
+    );
 }

@@ -1,6 +1,7 @@
 // Writes answers as text. Bytes gather in a lent buffer from place 0 on, and go to standard output whenever it is full.
 use address::Address;
 use libc::STDOUT_FILENO;
+use model::Refusal;
 use model::Reply;
 use model::State;
 use types::Action;
@@ -120,27 +121,68 @@ fn put_optional(out: &mut [u8], at: usize, address: Optional) -> usize {
     }
 }
 
-// `> TARGET` and the message without its records.
-pub fn put_message(out: &mut [u8], at: usize, target: Address, action: Action) -> usize {
-    let start = put_bytes(out, at, b"> ");
-    let sent = put_address(out, start, target);
+// A message without its records.
+pub fn put_action(out: &mut [u8], at: usize, action: Action) -> usize {
     match action {
         Action::Ping { from, requested_by } => {
-            let word = put_bytes(out, sent, b" ping");
+            let word = put_bytes(out, at, b" ping");
             let sender = put_marked_address(out, word, b' ', from);
             put_optional(out, sender, requested_by)
         }
         Action::PingReq { from, suspect } => {
-            let word = put_bytes(out, sent, b" req");
+            let word = put_bytes(out, at, b" req");
             let sender = put_marked_address(out, word, b' ', from);
             put_marked_address(out, sender, b' ', suspect)
         }
         Action::Ack { from, forward_to } => {
-            let word = put_bytes(out, sent, b" ack");
+            let word = put_bytes(out, at, b" ack");
             let sender = put_marked_address(out, word, b' ', from);
             put_optional(out, sender, forward_to)
         }
     }
+}
+
+// `> TARGET` and the message without its records.
+pub fn put_message(out: &mut [u8], at: usize, target: Address, action: Action) -> usize {
+    let start = put_bytes(out, at, b"> ");
+    let sent = put_address(out, start, target);
+    put_action(out, sent, action)
+}
+
+// The digit of a number below 16.
+fn digit(n: u8) -> u8 {
+    if n < 10 {
+        return b'0' + n;
+    }
+    if n < 16 {
+        return b'a' + (n - 10);
+    }
+    b'?'
+}
+
+fn put_pair(out: &mut [u8], at: usize, byte: u8) -> usize {
+    let high = put_byte(out, at, digit(byte >> 4));
+    put_byte(out, high, digit(byte & 15))
+}
+
+fn put_pairs(out: &mut [u8], from: usize, bytes: &[u8]) -> usize {
+    let mut at = from;
+    let mut i = 0;
+    while i < bytes.len() {
+        at = put_pair(out, at, bytes[i]);
+        i += 1;
+    }
+    at
+}
+
+// `< BYTES`: pairs of hexadecimal digits, `-` where there are none.
+pub fn put_written(out: &mut [u8], at: usize, bytes: &[u8]) -> usize {
+    let start = put_bytes(out, at, b"< ");
+    if bytes.len() == 0 {
+        return put_bytes(out, start, b"-\n");
+    }
+    let end = put_pairs(out, start, bytes);
+    put_byte(out, end, b'\n')
 }
 
 fn put_verdict(out: &mut [u8], at: usize, reply: Reply) -> usize {
@@ -156,6 +198,13 @@ fn put_verdict(out: &mut [u8], at: usize, reply: Reply) -> usize {
             put_marked(out, word, b' ', model::refusal_number(refusal) as u64)
         }
     }
+}
+
+// The line of refusal 11, which tells a place of the bytes.
+pub fn put_malformed(out: &mut [u8], at: usize, place: usize) -> usize {
+    let number = put_verdict(out, at, Reply::Refused(Refusal::Malformed));
+    let end = put_marked(out, number, b' ', place as u64);
+    put_byte(out, end, b'\n')
 }
 
 // The answer's own line.

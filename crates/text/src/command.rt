@@ -48,6 +48,13 @@ pub enum Command {
         gossip: usize,
         events: usize,
     },
+    Read {
+        places: usize,
+    },
+    Write {
+        room: usize,
+        action: Action,
+    },
 }
 
 // A command, and the place of the word after it.
@@ -311,14 +318,7 @@ fn wait_at(s: &[u8], at: usize) -> Head {
     wait_of_peer(word, s, end + 1)
 }
 
-// A line's first words.
-pub fn head_of(s: &[u8]) -> Head {
-    let end = find(s, 0, b' ');
-    let verb = &s[0..end];
-    let at = end + 1;
-    if check::same(verb, b"add") {
-        return add_at(s, at);
-    }
+fn message_at(verb: &[u8], s: &[u8], at: usize) -> Head {
     if check::same(verb, b"ping") {
         return ping_at(s, at);
     }
@@ -328,16 +328,80 @@ pub fn head_of(s: &[u8]) -> Head {
     if check::same(verb, b"ack") {
         return ack_at(s, at);
     }
+    malformed()
+}
+
+// The reader is lent at most 1024 places; its bytes follow.
+fn read_at(s: &[u8], at: usize) -> Head {
+    let NumberAt::Found {
+        value: places,
+        next,
+    } = number_at(s, at)
+    else {
+        return malformed();
+    };
+    if 1024 < places {
+        return malformed();
+    }
+    let command = Command::Read {
+        places: places as usize,
+    };
+    Head { command, next }
+}
+
+// The writer is lent at most 65536 bytes; a message follows.
+fn write_at(s: &[u8], at: usize) -> Head {
+    let NumberAt::Found {
+        value: room,
+        next: start,
+    } = number_at(s, at)
+    else {
+        return malformed();
+    };
+    if 65536 < room {
+        return malformed();
+    }
+    if s.len() < start {
+        return malformed();
+    }
+    let end = find(s, start, b' ');
+    let message = message_at(&s[start..end], s, end + 1);
+    let command = message.command;
+    writing(room as usize, command, message.next)
+}
+
+fn writing(room: usize, message: Command, next: usize) -> Head {
+    let Command::Message(action) = message else {
+        return malformed();
+    };
+    let command = Command::Write { room, action };
+    Head { command, next }
+}
+
+// A line's first words.
+pub fn head_of(s: &[u8]) -> Head {
+    let end = find(s, 0, b' ');
+    let verb = &s[0..end];
+    let at = end + 1;
+    if check::same(verb, b"add") {
+        return add_at(s, at);
+    }
     if check::same(verb, b"step") {
         return step_at(s, at);
+    }
+    if check::same(verb, b"timer") {
+        return timer_at(s, at);
+    }
+    if check::same(verb, b"read") {
+        return read_at(s, at);
+    }
+    if check::same(verb, b"write") {
+        return write_at(s, at);
     }
     other_head(verb, s, at)
 }
 
 fn other_head(verb: &[u8], s: &[u8], at: usize) -> Head {
-    if check::same(verb, b"timer") {
-        return timer_at(s, at);
-    }
     if check::same(verb, b"new") {
         return new_at(s, at);
     }
@@ -347,5 +411,5 @@ fn other_head(verb: &[u8], s: &[u8], at: usize) -> Head {
     if check::same(verb, b"rows") {
         return rows_at(s, at);
     }
-    malformed()
+    message_at(verb, s, at)
 }

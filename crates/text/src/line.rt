@@ -4,16 +4,19 @@ use crate::command::head_of;
 use crate::records::Records;
 use crate::records::no_records;
 use crate::records::records_at;
+use words::BytesAt;
 use words::MarkAt;
 use words::NumberAt;
+use words::bytes_at;
 use words::mark_at;
 use words::number_at;
 
-// A command with its records and how many draws it brings.
+// A command with its records, and how many draws and bytes it brings.
 pub struct Line {
     pub command: Command,
     pub records: Records,
     pub drawn: usize,
+    pub length: usize,
 }
 
 pub enum Drawn {
@@ -26,6 +29,8 @@ pub enum Tail {
     Nothing,
     Draws,
     Message,
+    Bytes,
+    Records,
 }
 
 fn tail_of(command: Command) -> Tail {
@@ -46,6 +51,8 @@ fn tail_of(command: Command) -> Tail {
             gossip: _,
             events: _,
         } => Tail::Nothing,
+        Command::Read { places: _ } => Tail::Bytes,
+        Command::Write { room: _, action: _ } => Tail::Records,
     }
 }
 
@@ -55,6 +62,7 @@ fn no_line() -> Line {
         command: Command::Malformed,
         records,
         drawn: 0,
+        length: 0,
     }
 }
 
@@ -90,6 +98,7 @@ fn with_draws(command: Command, records: Records, s: &[u8], at: usize, draws: &m
         command,
         records,
         drawn,
+        length: 0,
     }
 }
 
@@ -101,11 +110,42 @@ fn after_bar(command: Command, s: &[u8], at: usize, draws: &mut [u64]) -> Line {
 }
 
 fn after_records(command: Command, s: &[u8], at: usize, draws: &mut [u64]) -> Line {
-    let records = records_at(s, at);
+    let records = records_at(s, at, true);
     if records.is_whole {
         return with_draws(command, records, s, records.next, draws);
     }
     no_line()
+}
+
+// Records up to the end of the line.
+fn with_records(command: Command, s: &[u8], at: usize) -> Line {
+    let records = records_at(s, at, false);
+    if records.is_whole {
+        return Line {
+            command,
+            records,
+            drawn: 0,
+            length: 0,
+        };
+    }
+    no_line()
+}
+
+// One word of bytes, the last of the line.
+fn with_bytes(command: Command, s: &[u8], at: usize, bytes: &mut [u8]) -> Line {
+    let BytesAt::Found { length, next } = bytes_at(s, at, bytes) else {
+        return no_line();
+    };
+    if next <= s.len() {
+        return no_line();
+    }
+    let records = no_records();
+    Line {
+        command,
+        records,
+        drawn: 0,
+        length,
+    }
 }
 
 fn at_end(command: Command, s: &[u8], at: usize) -> Line {
@@ -115,13 +155,14 @@ fn at_end(command: Command, s: &[u8], at: usize) -> Line {
             command,
             records,
             drawn: 0,
+            length: 0,
         };
     }
     no_line()
 }
 
-// Reads a line without its line feed; its draws go to the lent row.
-pub fn read_line(s: &[u8], draws: &mut [u64]) -> Line {
+// Reads a line without its line feed; its draws and its bytes go to the lent rows.
+pub fn read_line(s: &[u8], draws: &mut [u64], bytes: &mut [u8]) -> Line {
     let head = head_of(s);
     let command = head.command;
     let next = head.next;
@@ -129,5 +170,7 @@ pub fn read_line(s: &[u8], draws: &mut [u64]) -> Line {
         Tail::Nothing => at_end(command, s, next),
         Tail::Draws => after_bar(command, s, next, draws),
         Tail::Message => after_records(command, s, next, draws),
+        Tail::Bytes => with_bytes(command, s, next, bytes),
+        Tail::Records => with_records(command, s, next),
     }
 }

@@ -18,6 +18,7 @@ pub enum Record {
 pub enum RecordAt {
     Malformed,
     Bar(usize),
+    End,
     Found { event: Event, next: usize },
 }
 
@@ -98,13 +99,13 @@ fn record_of(word: &[u8]) -> Record {
     fields(word)
 }
 
-// The bar, or a record.
+// The bar, the end of the line, or a record.
 fn record_at(s: &[u8], at: usize) -> RecordAt {
     if let MarkAt::Found(next) = mark_at(s, at, b'|') {
         return RecordAt::Bar(next);
     }
     if s.len() < at {
-        return RecordAt::Malformed;
+        return RecordAt::End;
     }
     let end = find(s, at, b' ');
     let Record::Read(event) = record_of(&s[at..end]) else {
@@ -136,8 +137,8 @@ pub fn no_records() -> Records {
     }
 }
 
-// All records up to the bar, at most 256 of them, and the place past the bar.
-pub fn records_at(s: &[u8], from: usize) -> Records {
+// All records up to the bar, or up to the end where there is to be none, at most 256 of them; and the place past them.
+pub fn records_at(s: &[u8], from: usize, has_bar: bool) -> Records {
     let nothing = Gossip {
         event: Event::Nothing,
     };
@@ -154,7 +155,15 @@ pub fn records_at(s: &[u8], from: usize) -> Records {
                     rows,
                     given,
                     next,
-                    is_whole: true,
+                    is_whole: has_bar,
+                };
+            }
+            RecordAt::End => {
+                return Records {
+                    rows,
+                    given,
+                    next: at,
+                    is_whole: !has_bar,
                 };
             }
             RecordAt::Found { event, next } => {

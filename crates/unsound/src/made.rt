@@ -23,7 +23,7 @@ fn settings() -> Settings {
         ping_req_group_size: 1,
         send_constant: 3,
         max_selected: 6,
-        max_size: 1400,
+        max_size: 1373,
     }
 }
 

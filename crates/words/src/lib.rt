@@ -1,6 +1,9 @@
 // Reads words: numbers, addresses, marks, each from its place in a line.
+mod pairs;
 mod places;
 
+pub use pairs::BytesAt;
+pub use pairs::bytes_at;
 pub use places::AddressAt;
 pub use places::MarkAt;
 pub use places::NumberAt;

@@ -31,7 +31,7 @@ C = host 3
 abbrev pub says : (ℕ → ℕ → ℕ → Event ℕ) → ℕ → ℕ → Gossip ℕ
 says kind a n = record { event = kind own a n }
 
--- four waits of 10 ticks, a group of 1, send constant 3, 6 selected, 1400 bytes
+-- four waits of 10 ticks, a group of 1, send constant 3, 6 selected, 1373 bytes
 abbrev pub settings : Settings
 settings =
     record {
@@ -42,7 +42,7 @@ settings =
       «ping_req_group_size» = 1;
       «send_constant» = 3;
       «max_selected» = 6;
-      «max_size» = 1400;
+      «max_size» = 1373;
     }
 
 abbrev pub member : ℕ → State → ℕ → Member ℕ

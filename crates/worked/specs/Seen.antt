@@ -133,11 +133,11 @@ ofTerms t = t .alive-share ∷ t .deceased-share ∷ t .max-size ∷ t .limit �
 abbrev pub ofChoice : Choice ℕ → List ℕ
 ofChoice c = counted ofGossip (c .chosen) ++ counted ofEntry (c .alive) ++ counted ofEntry (c .deceased)
 
--- the ten refusals have the numbers 1 to 10
+-- refusals have their numbers, which are below 98
 abbrev pub ofReply : Reply → List ℕ
 ofReply (Done used) = 0 ∷ used ∷ []
-ofReply Already = 11 ∷ []
-ofReply NotDue = 12 ∷ []
+ofReply Already = 98 ∷ []
+ofReply NotDue = 99 ∷ []
 ofReply (Refused r) = numberOf r ∷ []
 
 -- of a call: how it ended, what is sent and reported, and the node that the rows hold

@@ -37,7 +37,7 @@ sends action gs = ofGiven (λ e. e .messages) (handle ipv4 action gs (withB stat
 
 -- waits that differ
 abbrev waits : Settings
-waits = record { «ping_interval» = 1; «ping_timeout» = 2; «ping_req_timeout» = 3; «suspect_timeout» = 4; «ping_req_group_size» = 1; «send_constant» = 3; «max_selected» = 6; «max_size» = 1400 }
+waits = record { «ping_interval» = 1; «ping_timeout» = 2; «ping_req_timeout» = 3; «suspect_timeout» = 4; «ping_req_group_size» = 1; «send_constant» = 3; «max_selected» = 6; «max_size» = 1373 }
 
 -- one past the last address
 abbrev past : ℕ

@@ -77,10 +77,10 @@ table =
     -- "order B,C,own at 1, pick 2 with draws 2,0: C, C"; and the trap "forgetting that a pick may give one peer twice"
     ∷ (ofGiven (λ p. p .picks) (list.pickFrom eqb 0 own none 2 (order (B ∷ C ∷ own ∷ []) 1) (2 ∷ 0 ∷ [])) is some (C ∷ C ∷ []))
     -- "tie: push x,y,z, all alive; limit 3, max_selected 6, no deaths held, all fit: sent x,z,y"; and the trap "first in, first out"
-    ∷ (choose ipv4 (termsOf 6 1400 3) (heapOf (x ∷ y ∷ z ∷ []) []) [] .chosen is (x ∷ z ∷ y ∷ []))
+    ∷ (choose ipv4 (termsOf 6 1373 3) (heapOf (x ∷ y ∷ z ∷ []) []) [] .chosen is (x ∷ z ∷ y ∷ []))
     -- "One heap may pass its share while the other is short": no deaths are held, and three of the living go out at a share of 1
-    ∷ (termsOf 2 1400 3 .alive-share is 1)
-    ∷ (choose ipv4 (termsOf 2 1400 3) (heapOf (x ∷ y ∷ z ∷ []) []) [] .from-alive is 3)
+    ∷ (termsOf 2 1373 3 .alive-share is 1)
+    ∷ (choose ipv4 (termsOf 2 1373 3) (heapOf (x ∷ y ∷ z ∷ []) []) [] .from-alive is 3)
     -- "B Pending 4, Suspected 4: nothing; 5: Suspected 5"
     ∷ (ruleOf Suspected B 4 (withB state.Pending 4) [] is done (record { node = withB state.Pending 4; said = [] }) [])
     ∷ (ofGiven (λ o. numbered ipv4 B (o .node)) (ruleOf Suspected B 5 (withB state.Pending 4) []) is some 5)

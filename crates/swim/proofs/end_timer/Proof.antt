@@ -62,7 +62,7 @@ use Rattle.lent.proofs.write_1.Symbol.{name as #write}
 use Rattle.lent.proofs.write_1.Met as write-thm
 use Rattle.swim.specs.Contracts.{timerOf}
 use Rattle.swim.specs.Laws.{ended-answer, ended-told}
-use Rattle.swim.proofs.Writing.{nameOf, tysOf, field-part, rowTy, onTy, rval, Write, rowRef, rowVal, to-write, ask-write, wrote}
+use Rattle.lent.proofs.Writing.{nameOf, tysOf, field-part, rowTy, onTy, rval, Write, rowRef, rowVal, to-write, ask-write, wrote}
 use Rattle.swim.proofs.Out.{out, out-is}
 use Rattle.swim.proofs.Outcome as O
 use Rattle.swim.proofs.Outcome.Laws as O′

@@ -78,7 +78,7 @@ use Rattle.lent.proofs.write_64.Symbol.{name as #write-64}
 use Rattle.lent.proofs.write_64.Met as write-64-thm
 use Rattle.swim.specs.Contracts.{room, messageOf}
 use Rattle.swim.specs.Laws.{received-ends, lent-message}
-use Rattle.swim.proofs.Writing.{nameOf, tysOf, field-part, rowTy, onTy, rval, Write, rowRef, rowVal, to-write, ask-write, wrote}
+use Rattle.lent.proofs.Writing.{nameOf, tysOf, field-part, rowTy, onTy, rval, Write, rowRef, rowVal, to-write, ask-write, wrote}
 use Rattle.swim.proofs.Out.{out, out-is}
 use Rattle.swim.proofs.Outcome as O
 use Rattle.swim.proofs.Outcome.Laws as O′

@@ -70,7 +70,7 @@ use Rattle.lent.proofs.write_256.Symbol.{name as #write-256}
 use Rattle.lent.proofs.write_256.Met as write-256-thm
 use Rattle.swim.specs.Contracts.{stepOf}
 use Rattle.swim.specs.Laws.{stepped-ends, stepped-waits}
-use Rattle.swim.proofs.Writing.{nameOf, tysOf, field-part, rowTy, onTy, rval, Write, rowRef, rowVal, to-write, ask-write, wrote}
+use Rattle.lent.proofs.Writing.{nameOf, tysOf, field-part, rowTy, onTy, rval, Write, rowRef, rowVal, to-write, ask-write, wrote}
 use Rattle.swim.proofs.Out.{out, out-is}
 use Rattle.swim.proofs.Outcome as O
 use Rattle.swim.proofs.Outcome.Laws as O′

@@ -84,7 +84,7 @@ impl Coverage {
         self.count("setting max_selected 1", settings.max_selected == 1);
         self.count("setting max_selected 64", settings.max_selected == 64);
         self.count("setting max_size 59", settings.max_size == 59);
-        self.count("setting max_size 1400", settings.max_size == 1400);
+        self.count("setting max_size 1373", settings.max_size == 1373);
     }
 
     fn observe_answer(&mut self, seen: &Seen) {

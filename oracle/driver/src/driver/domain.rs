@@ -3,7 +3,7 @@
 use rand::Lent;
 
 use super::script::{Call, Creation, Rows, Settings};
-use super::words::{Address, Gossips, Kind, Record, Wait, ADDRESS_LIMIT};
+use super::words::{Address, Gossips, Kind, Packet, Record, Wait, ADDRESS_LIMIT};
 
 pub const MOST_LISTED: usize = 64;
 pub const MOST_HELD: usize = 128;
@@ -54,7 +54,7 @@ fn in_range(settings: &Settings) -> bool {
         && settings.group <= 4
         && settings.send_constant <= 8
         && (1..=64).contains(&settings.max_selected)
-        && (59..=1400).contains(&settings.max_size)
+        && (59..=1373).contains(&settings.max_size)
 }
 
 /// Refusals 3, 4 and 5, which depend on the inputs alone.
@@ -65,15 +65,18 @@ pub fn check_inputs(call: &Call, rows: Option<Rows>, wait: &Wait) -> Result<(), 
     }
     match call {
         Call::Add { peer, .. } => refuse(5, too_large(peer.address)),
-        Call::Message { packet, .. } => {
-            refuse(4, packet.gossip.len() > MOST_GOSSIP)?;
-            let ends = [Some(packet.from), packet.other];
-            refuse(5, ends.into_iter().flatten().any(too_large))?;
-            refuse(5, gossip_too_large(&packet.gossip))
-        }
+        Call::Message { packet, .. } => check_packet(packet),
         Call::Step { .. } => refuse(5, wait.phase.address().is_some_and(too_large)),
         Call::Timer { .. } => Ok(()),
     }
+}
+
+/// Refusals 4 and 5 of a message.
+pub fn check_packet(packet: &Packet) -> Result<(), Outside> {
+    refuse(4, packet.gossip.len() > MOST_GOSSIP)?;
+    let ends = [Some(packet.from), packet.other];
+    refuse(5, ends.into_iter().flatten().any(too_large))?;
+    refuse(5, gossip_too_large(&packet.gossip))
 }
 
 fn gossip_too_large(gossip: &Gossips) -> bool {

@@ -2,7 +2,9 @@
 use std::fmt::Display;
 use std::io::{self, Write};
 
+use super::datagram::{Reading, Writing};
 use super::host::{Answer, State, Verdict};
+use super::words::Bytes;
 
 pub fn answer(out: &mut impl Write, answer: &Answer) -> io::Result<()> {
     match answer.verdict {
@@ -17,6 +19,24 @@ pub fn answer(out: &mut impl Write, answer: &Answer) -> io::Result<()> {
         writeln!(out, "! {event}")?;
     }
     Ok(())
+}
+
+/// What a `read` line gives.
+pub fn reading(out: &mut impl Write, reading: &Reading) -> io::Result<()> {
+    match reading {
+        Reading::Read(packet) => writeln!(out, "= ok 0\n< {packet}"),
+        Reading::Malformed(place) => writeln!(out, "= refused 11 {place}"),
+        Reading::Refused(number) => writeln!(out, "= refused {number}"),
+        Reading::Group(_) => writeln!(out, "? outside"),
+    }
+}
+
+/// What a `write` line gives.
+pub fn writing(out: &mut impl Write, writing: &Writing) -> io::Result<()> {
+    match writing {
+        Writing::Written(bytes) => writeln!(out, "= ok 0\n< {}", Bytes(bytes)),
+        Writing::Refused(number) => writeln!(out, "= refused {number}"),
+    }
 }
 
 pub fn state(out: &mut impl Write, state: &State) -> io::Result<()> {

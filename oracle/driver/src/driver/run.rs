@@ -1,6 +1,7 @@
 //! The verbs `run` and `past`: a script in, the published code's answers out.
 use std::io::{self, BufRead, Write};
 
+use super::datagram::{self, Reading};
 use super::host::{Answer, Host, Outcome, Verdict};
 use super::lines::Lines;
 use super::report;
@@ -68,6 +69,11 @@ impl<W: Write> Run<W> {
                 Ok(())
             }
             (Line::Wait(_) | Line::Rows(_), Stage::Before | Stage::Outside) => Ok(()),
+            // These need no node and leave the one there is.
+            (Line::Read(call), _) => self.read(&datagram::read(call.places, &call.bytes)),
+            (Line::Write(call), _) => {
+                report::writing(&mut self.out, &datagram::write(call.room, &call.packet))
+            }
         }
     }
 
@@ -98,6 +104,17 @@ impl<W: Write> Run<W> {
                     None => Ok(()),
                 }
             }
+        }
+    }
+
+    /// What was read; where prost skips a group, past the domain's edge, what it comes to.
+    fn read(&mut self, reading: &Reading) -> io::Result<()> {
+        match reading {
+            Reading::Group(skipped) if self.manner.past => {
+                writeln!(self.out, "? outside Group")?;
+                report::reading(&mut self.out, skipped)
+            }
+            reading => report::reading(&mut self.out, reading),
         }
     }
 

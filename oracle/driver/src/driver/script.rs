@@ -2,11 +2,12 @@
 //! A line that is not of the form reads as `None`.
 use std::fmt;
 
-use super::words::{Address, Gossips, Kind, Packet, PacketKind, Peer, Phase, Record, Wait};
+use super::words::{Address, Bytes, Gossips, Kind, Packet, PacketKind, Peer, Phase, Record, Wait};
 
 const MOST_RECORDS: usize = 256;
 const MOST_DRAWS: usize = 1024;
 const MOST_ROWS: u64 = 1024;
+const MOST_ROOM: u64 = 65536;
 
 /// The eight settings of a node, in the order of the `new` line.
 #[derive(Clone, Copy, Debug, PartialEq, Eq)]
@@ -51,6 +52,22 @@ pub enum Line {
     Call(Call),
     Wait(Wait),
     Rows(Rows),
+    Read(Read),
+    Write(Write),
+}
+
+/// The reader's call, with so many gossip places lent.
+#[derive(Clone, Debug, PartialEq, Eq)]
+pub struct Read {
+    pub places: usize,
+    pub bytes: Vec<u8>,
+}
+
+/// The writer's call, with a row of so many bytes lent.
+#[derive(Clone, Debug, PartialEq, Eq)]
+pub struct Write {
+    pub room: usize,
+    pub packet: Packet,
 }
 
 /// Reads a line, its line feed left out.
@@ -65,9 +82,47 @@ pub fn parse(line: &[u8]) -> Option<Line> {
         "timer" => timer(rest).map(Line::Call),
         "add" => add(rest).map(Line::Call),
         "step" => step(rest).map(Line::Call),
-        "ping" => message(PacketKind::Ping, rest).map(Line::Call),
-        "req" => message(PacketKind::Req, rest).map(Line::Call),
-        "ack" => message(PacketKind::Ack, rest).map(Line::Call),
+        "read" => read(rest).map(Line::Read),
+        "write" => write(rest).map(Line::Write),
+        _ => message(&words).map(Line::Call),
+    }
+}
+
+fn read(words: &[&str]) -> Option<Read> {
+    let &[places, bytes] = words else {
+        return None;
+    };
+    Some(Read {
+        places: number(places).filter(|&count| count <= MOST_ROWS)? as usize,
+        bytes: bytes_of(bytes)?,
+    })
+}
+
+fn write(words: &[&str]) -> Option<Write> {
+    let (room, words) = words.split_first()?;
+    Some(Write {
+        room: number(room).filter(|&count| count <= MOST_ROOM)? as usize,
+        packet: packet(words)?,
+    })
+}
+
+/// Pairs of lower-case hexadecimal digits, `-` for none.
+pub fn bytes_of(word: &str) -> Option<Vec<u8>> {
+    if word == "-" {
+        return Some(Vec::new());
+    }
+    let digits = word.as_bytes();
+    if digits.is_empty() || digits.len() % 2 == 1 {
+        return None;
+    }
+    let byte = |pair: &[u8]| Some(hex_digit(pair[0])? << 4 | hex_digit(pair[1])?);
+    digits.chunks(2).map(byte).collect()
+}
+
+fn hex_digit(digit: u8) -> Option<u8> {
+    match digit {
+        b'0'..=b'9' => Some(digit - b'0'),
+        b'a'..=b'f' => Some(digit - b'a' + 10),
         _ => None,
     }
 }
@@ -146,10 +201,22 @@ fn step(words: &[&str]) -> Option<Call> {
     Some(Call::Step { now, draws })
 }
 
-fn message(kind: PacketKind, words: &[&str]) -> Option<Call> {
+fn message(words: &[&str]) -> Option<Call> {
     let (words, draws) = split_at_bar(words)?;
-    let [from, other, records @ ..] = words else {
+    let packet = packet(words)?;
+    Some(Call::Message { packet, draws })
+}
+
+/// A message's words, its kind the first of them.
+pub fn packet(words: &[&str]) -> Option<Packet> {
+    let [kind, from, other, records @ ..] = words else {
         return None;
+    };
+    let kind = match *kind {
+        "ping" => PacketKind::Ping,
+        "req" => PacketKind::Req,
+        "ack" => PacketKind::Ack,
+        _ => return None,
     };
     // A ping request without a suspect is no message.
     let other = match *other {
@@ -157,13 +224,12 @@ fn message(kind: PacketKind, words: &[&str]) -> Option<Call> {
         "-" => None,
         word => Some(number(word)?),
     };
-    let packet = Packet {
+    Some(Packet {
         kind,
         from: number(from)?,
         other,
         gossip: gossip(records)?,
-    };
-    Some(Call::Message { packet, draws })
+    })
 }
 
 fn split_at_bar<'a, 'b>(words: &'a [&'b str]) -> Option<(&'a [&'b str], Vec<u64>)> {
@@ -238,6 +304,8 @@ impl fmt::Display for Line {
             Line::Call(call) => write!(f, "{call}"),
             Line::Wait(wait) => write!(f, "wait {wait}"),
             Line::Rows(rows) => write!(f, "rows {} {}", rows.gossip, rows.events),
+            Line::Read(read) => write!(f, "read {} {}", read.places, Bytes(&read.bytes)),
+            Line::Write(write) => write!(f, "write {} {}", write.room, write.packet),
         }
     }
 }
@@ -291,8 +359,12 @@ mod tests {
     #[test]
     fn lines_of_the_form_are_read() {
         for line in [
-            "new 1 1 1 1 1 3 6 1400 1 0 0",
-            "new 4294967295 1 1 1 1 3 6 1400 18446744073709551615 0 4294967295",
+            "read 0 -",
+            "read 1024 00ff0a",
+            "write 65536 ping 1 -",
+            "write 0 req 1 2 n j:1:2:3",
+            "new 1 1 1 1 1 3 6 1373 1 0 0",
+            "new 4294967295 1 1 1 1 3 6 1373 18446744073709551615 0 4294967295",
             "add 5 0 |",
             "add 5 18446744073709551615 | 1 2",
             "ping 5 - |",
@@ -318,10 +390,26 @@ mod tests {
     fn other_lines_are_not_read() {
         for line in [
             " ",
-            "new 1 1 1 1 1 3 6 1400 1 0",
-            "new 4294967296 1 1 1 1 3 6 1400 1 0 0",
-            "new 1 1 1 1 1 3 6 1400 - 0 0",
-            "new 1 1 1 1 1 3 6 1400 1 0 0 |",
+            "read 64",
+            "read 64 ",
+            "read 64 0",
+            "read 64 0A",
+            "read 64 0g",
+            "read 64 --",
+            "read 64 00 00",
+            "read 64 00 |",
+            "read 1025 00",
+            "read - 00",
+            "write 65537 ping 1 -",
+            "write 1 ping 1 - |",
+            "write 1 req 1 -",
+            "write 1 add 1 0",
+            "write ping 1 -",
+            "write 1",
+            "new 1 1 1 1 1 3 6 1373 1 0",
+            "new 4294967296 1 1 1 1 3 6 1373 1 0 0",
+            "new 1 1 1 1 1 3 6 1373 - 0 0",
+            "new 1 1 1 1 1 3 6 1373 1 0 0 |",
             "add 5 0",
             "add 5 0 ",
             "add 5 0 | ",

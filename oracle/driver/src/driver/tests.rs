@@ -1,7 +1,7 @@
 //! Whole scripts and their answers: the worked numbers that run on a node, and the domain's edges.
 use super::run::{run, Manner};
 
-const NEW: &str = "new 10 10 10 10 1 3 6 1400 1 0 0\n";
+const NEW: &str = "new 10 10 10 10 1 3 6 1373 1 0 0\n";
 
 fn answers(script: &str, quiet: bool) -> String {
     let mut out = Vec::new();
@@ -49,7 +49,7 @@ fn a_tie_is_sent_x_z_y() {
 fn a_pick_may_give_one_peer_twice() {
     let order = "add 2 0 | 0\nadd 3 0 | 1\nadd 4 0 | 2\n";
     let requests = "wait req 9 0 0\nstep 0 |\nwait req 9 0 0\nstep 0 | 3 0 1";
-    let script = format!("new 10 10 10 10 2 3 1 1400 1 0 0\n{order}{requests}");
+    let script = format!("new 10 10 10 10 2 3 1 1373 1 0 0\n{order}{requests}");
     let all = answers(&script, true);
     assert!(
         all.contains("> 2 req 1 9 s:1:9:0\n> 3 req 1 9 s:1:9:0\n"),
@@ -125,15 +125,15 @@ fn is_outside(calls: &str) -> bool {
 #[test]
 fn refused_creations_are_outside() {
     for creation in [
-        "new 10 10 10 10 1 3 6 1400 281474976710656 0 0",
-        "new 2147483648 10 10 10 1 3 6 1400 1 0 0",
-        "new 10 10 10 2147483648 1 3 6 1400 1 0 0",
-        "new 10 10 10 10 5 3 6 1400 1 0 0",
-        "new 10 10 10 10 1 9 6 1400 1 0 0",
-        "new 10 10 10 10 1 3 0 1400 1 0 0",
-        "new 10 10 10 10 1 3 65 1400 1 0 0",
+        "new 10 10 10 10 1 3 6 1373 281474976710656 0 0",
+        "new 2147483648 10 10 10 1 3 6 1373 1 0 0",
+        "new 10 10 10 2147483648 1 3 6 1373 1 0 0",
+        "new 10 10 10 10 5 3 6 1373 1 0 0",
+        "new 10 10 10 10 1 9 6 1373 1 0 0",
+        "new 10 10 10 10 1 3 0 1373 1 0 0",
+        "new 10 10 10 10 1 3 65 1373 1 0 0",
         "new 10 10 10 10 1 3 6 58 1 0 0",
-        "new 10 10 10 10 1 3 6 1401 1 0 0",
+        "new 10 10 10 10 1 3 6 1374 1 0 0",
     ] {
         let all = answers(&format!("{creation}\nadd 2 0 | 0"), false);
         assert_eq!(all, "? outside\n? outside\n", "{creation}");
@@ -251,4 +251,78 @@ fn an_emptied_list_is_outside() {
         last_answer("add 2 0 | 1\nack 2 - d:2:1:0 |"),
         "= ok 0\n! d:1:1:0\n"
     );
+}
+
+/// The answer to a line that needs no node.
+fn answer_to(line: &str) -> String {
+    answers(line, false)
+}
+
+#[test]
+fn datagrams_are_read_and_written_without_a_node() {
+    let bytes = "0a0b0a09302e302e302e303a31";
+    assert_eq!(
+        answer_to("write 13 ping 1 -"),
+        format!("= ok 0\n< {bytes}\n")
+    );
+    assert_eq!(
+        answer_to(&format!("read 64 {bytes}")),
+        "= ok 0\n< ping 1 -\n"
+    );
+    assert_eq!(answer_to("write 12 ping 1 -"), "= refused 12\n");
+    assert_eq!(answer_to(&format!("read 63 {bytes}")), "= refused 3\n");
+    // an answer of theirs is no part of a node's: the state stays, and nothing follows
+    let within = format!("{NEW}read 64 {bytes}\nadd 2 0 | 0");
+    assert!(answers(&within, true).ends_with("< ping 1 -\n= ok 1\n"));
+}
+
+#[test]
+fn readings_are_refused_in_order() {
+    // no action; field 0; a text that is no text; an address that is not canonical
+    assert_eq!(answer_to("read 64 -"), "= refused 11 0\n");
+    assert_eq!(answer_to("read 63 -"), "= refused 3\n");
+    assert_eq!(answer_to("read 64 0a000200"), "= refused 11 2\n");
+    assert_eq!(answer_to("read 64 0a030a01ff"), "= refused 11 2\n");
+    let odd = "0a0c0a0a30312e322e332e343a35";
+    assert_eq!(answer_to(&format!("read 64 {odd}")), "= refused 11 14\n");
+    // 65 records of no event: 4 only where the rest is well
+    let many = "1a00".repeat(65);
+    let from = "0a09302e302e302e303a31";
+    assert_eq!(
+        answer_to(&format!("read 64 0a8d01{from}{many}")),
+        "= refused 4\n"
+    );
+    assert_eq!(
+        answer_to(&format!("read 64 0a8201{many}")),
+        "= refused 11 133\n"
+    );
+}
+
+#[test]
+fn a_group_is_outside() {
+    assert_eq!(answer_to("read 64 2324"), "? outside\n");
+    assert_eq!(answer_to("read 64 24"), "= refused 11 0\n");
+}
+
+#[test]
+fn writings_are_refused_in_order() {
+    let large = "281474976710656";
+    let many = " n".repeat(65);
+    assert_eq!(
+        answer_to(&format!("write 0 ping {large} -{many}")),
+        "= refused 4\n"
+    );
+    assert_eq!(
+        answer_to(&format!("write 0 ping {large} -")),
+        "= refused 5\n"
+    );
+    assert_eq!(
+        answer_to(&format!("write 0 req 1 {large}")),
+        "= refused 5\n"
+    );
+    assert_eq!(
+        answer_to(&format!("write 0 ack 1 - d:1:{large}:0")),
+        "= refused 5\n"
+    );
+    assert_eq!(answer_to("write 0 ping 1 -"), "= refused 12\n");
 }

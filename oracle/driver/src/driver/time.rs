@@ -2,6 +2,7 @@
 use std::io::{self, BufRead, Write};
 
 use super::clock;
+use super::datagram;
 use super::host::{Host, Outcome};
 use super::lines::Lines;
 use super::script::{self, Line};
@@ -20,6 +21,14 @@ pub fn time(input: impl BufRead, mut out: impl Write) -> io::Result<bool> {
                 let Outcome::Inside(_) = node.call(&call) else {
                     return Ok(false);
                 };
+                writeln!(out, "{}", clock::last().saturating_sub(overhead))?;
+            }
+            (Some(Line::Read(call)), _) => {
+                datagram::read(call.places, &call.bytes);
+                writeln!(out, "{}", clock::last().saturating_sub(overhead))?;
+            }
+            (Some(Line::Write(call)), _) => {
+                datagram::write(call.room, &call.packet);
                 writeln!(out, "{}", clock::last().saturating_sub(overhead))?;
             }
             _ => {}

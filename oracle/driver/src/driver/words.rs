@@ -149,6 +149,26 @@ impl fmt::Display for Packet {
     }
 }
 
+/// Bytes as pairs of lower-case hexadecimal digits, `-` for none.
+pub struct Bytes<'a>(pub &'a [u8]);
+
+impl fmt::Display for Bytes<'_> {
+    fn fmt(&self, f: &mut fmt::Formatter<'_>) -> fmt::Result {
+        const DIGITS: &[u8; 16] = b"0123456789abcdef";
+        if self.0.is_empty() {
+            return write!(f, "-");
+        }
+        let pair = |byte: &u8| {
+            [
+                DIGITS[usize::from(byte >> 4)],
+                DIGITS[usize::from(byte & 15)],
+            ]
+        };
+        let text: Vec<u8> = self.0.iter().flat_map(pair).collect();
+        f.write_str(std::str::from_utf8(&text).expect("digits are text"))
+    }
+}
+
 impl fmt::Display for Member {
     fn fmt(&self, f: &mut fmt::Formatter<'_>) -> fmt::Result {
         let letter = match self.state {

@@ -9,6 +9,7 @@ use lib.ListN.{length}
 use borrow.Author.Tests.{eqb-true}
 use borrow.Author.Needs.{needs}
 use Rattle.model.specs.declared.Kind.the-variants as kind
+use Rattle.model.specs.Bounds.{greatest-size}
 use Rattle.address.specs.Here.{here}
 use Rattle.model.specs.Limit.{limitOf}
 use Rattle.model.specs.Choose.{Terms, choose, termsOf}
@@ -33,9 +34,9 @@ get-gossip-requires c κs =
     (r .heaps .alive, r .heaps .deceased, r .good .heaps kind.Alive, r .good .heaps kind.Deceased, r .good .settings, r .members .packed .few)
 
 -- the size of a good node's settings
-size-1400 : (n : Node) → Ready n → n .settings .«max_size» ≤ 1400
+size-in-range : (n : Node) → Ready n → n .settings .«max_size» ≤ greatest-size
 unfolding viewNode
-size-1400 n r = ranges (n .settings) (r .good .settings) .most-size
+size-in-range n r = ranges (n .settings) (r .good .settings) .most-size
 
 -- nothing is held
 returns : tie.Need-returns
@@ -60,7 +61,7 @@ returns-2 c =
     let e : g .get-gossip .result ≡ packChoice (choose here (terms (length (viewNode n .members .table))) (viewNode n .disseminator .alive) (viewNode n .disseminator .deceased)) =
     g .get-gossip .ensures ∙ ap (λ (k : ℕ). packChoice (choose here (terms k) (viewNode n .disseminator .alive) (viewNode n .disseminator .deceased))) many in
     let few : length (choose here (terms (length (viewNode n .members .table))) (viewNode n .disseminator .alive) (viewNode n .disseminator .deceased) .chosen) ≤ most-chosen =
-    few-chosen (terms (length (viewNode n .members .table))) (viewNode n .disseminator .alive) (viewNode n .disseminator .deceased) (size-1400 n r) (r .good .heaps kind.Alive) (r .good .heaps kind.Deceased) in (
+    few-chosen (terms (length (viewNode n .members .table))) (viewNode n .disseminator .alive) (viewNode n .disseminator .deceased) (size-in-range n r) (r .good .heaps kind.Alive) (r .good .heaps kind.Deceased) in (
       spread-is n r (choose here (terms (length (viewNode n .members .table))) (viewNode n .disseminator .alive) (viewNode n .disseminator .deceased)) (g .get-gossip .result) _ e refl,
       omega (arith, ap (λ (k : Choice). k .chosen .count) e),
     )

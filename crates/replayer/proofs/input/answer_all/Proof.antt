@@ -7,10 +7,10 @@ use Rattle.replayer.proofs.input.answer_all.Statement.{statement}
 use Rattle.replayer.proofs.input.answer_all.Tie as tie
 
 abbrev Inv-loop : tie.InvT-loop
-Inv-loop host₀ chunk₀ line₀ out₀ draws₀ turns₀ host chunk line out draws turns = (length chunk ≡ length chunk₀) × (length line ≡ length line₀) × (length out ≡ length out₀) × (length draws ≡ length draws₀)
+Inv-loop host₀ chunk₀ line₀ out₀ draws₀ bytes₀ turns₀ host chunk line out draws bytes turns = (length chunk ≡ length chunk₀) × (length line ≡ length line₀) × (length out ≡ length out₀) × (length draws ≡ length draws₀) × (length bytes ≡ length bytes₀)
 
 abbrev μ-loop : tie.MeasureT-loop
-μ-loop host₀ chunk₀ line₀ out₀ draws₀ turns₀ host chunk line out draws turns = turns
+μ-loop host₀ chunk₀ line₀ out₀ draws₀ bytes₀ turns₀ host chunk line out draws bytes turns = turns
 
 pub answer-all-spec : {M : Type 1} → statement M
 answer-all-spec =
@@ -21,6 +21,8 @@ answer-all-spec =
     (λ c. search needs)
     (λ c. search needs)
     (λ c κs. search needs)
+    (λ c. search needs)
+    (λ c. search needs)
     (λ c. search needs)
     (λ c. search needs)
     (λ c. search needs)

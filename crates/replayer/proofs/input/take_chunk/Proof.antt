@@ -8,10 +8,10 @@ use Rattle.replayer.proofs.input.take_chunk.Statement.{statement}
 use Rattle.replayer.proofs.input.take_chunk.Tie as tie
 
 abbrev Inv-loop : tie.InvT-loop
-Inv-loop host₀ chunk line₀ out₀ draws₀ at₀ host line out draws at = (length line ≡ length line₀) × (length out ≡ length out₀) × (length draws ≡ length draws₀)
+Inv-loop host₀ chunk line₀ out₀ draws₀ bytes₀ at₀ host line out draws bytes at = (length line ≡ length line₀) × (length out ≡ length out₀) × (length draws ≡ length draws₀) × (length bytes ≡ length bytes₀)
 
 abbrev μ-loop : tie.MeasureT-loop
-μ-loop host₀ chunk line₀ out₀ draws₀ at₀ host line out draws at = length chunk - at
+μ-loop host₀ chunk line₀ out₀ draws₀ bytes₀ at₀ host line out draws bytes at = length chunk - at
 
 pub take-chunk-spec : {M : Type 1} → statement M
 take-chunk-spec =
@@ -26,6 +26,7 @@ take-chunk-spec =
     (λ c. search needs)
     (λ c κs. search needs)
     (λ c κs. search needs)
+    (λ c. search needs)
     (λ c. search needs)
     (λ c. search needs)
     (λ c. search needs)

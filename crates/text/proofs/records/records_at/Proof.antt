@@ -6,10 +6,10 @@ use Rattle.text.proofs.records.records_at.Statement.{statement}
 use Rattle.text.proofs.records.records_at.Tie as tie
 
 abbrev Inv-loop : tie.InvT-loop
-Inv-loop s from rows₀ at₀ given₀ rows at given = (given ≤ 257)
+Inv-loop s from has-bar rows₀ at₀ given₀ rows at given = (given ≤ 257)
 
 abbrev μ-loop : tie.MeasureT-loop
-μ-loop s from rows₀ at₀ given₀ rows at given = 257 - given
+μ-loop s from has-bar rows₀ at₀ given₀ rows at given = 257 - given
 
 pub records-at-spec : {M : Type 1} → statement M
 records-at-spec =
@@ -21,6 +21,8 @@ records-at-spec =
     (λ c κs. search needs)
     (λ c. search needs)
     (λ c κs. search needs)
+    (λ c. search needs)
+    (λ c. search needs)
     (λ c. search needs)
     (λ c. search needs)
     (λ c. search needs)

@@ -108,7 +108,7 @@ fn settings(rng: &mut Rng) -> Settings {
         group: rng.below(5) as u32,
         send_constant: *rng.pick(&[0, 1, 2, 3, 3, 4, 5, 6, 7, 8, 8]),
         max_selected: either_or(rng, &[1, 2, 3, 6, 64], (1, 64)),
-        max_size: either_or(rng, &[59, 60, 118, 1400, 1400, 1400], (59, 1400)),
+        max_size: either_or(rng, &[59, 60, 118, 1373, 1373, 1373], (59, 1373)),
     }
 }
 
@@ -116,7 +116,7 @@ fn crowded_settings(rng: &mut Rng) -> Settings {
     Settings {
         send_constant: 8,
         max_selected: rng.between(32, 64) as u32,
-        max_size: 1400,
+        max_size: 1373,
         ..settings(rng)
     }
 }

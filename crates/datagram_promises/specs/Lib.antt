@@ -1,0 +1,6 @@
+pub mod Lengths
+pub mod Growth
+pub mod Least
+pub mod Exactly
+pub mod Back
+pub mod Malformed

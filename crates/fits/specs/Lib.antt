@@ -1,0 +1,5 @@
+pub mod Sizes
+pub mod Chosen
+pub mod Length
+pub mod Letters
+pub mod Loosest

@@ -1,0 +1,3 @@
+pub mod Outgoing
+pub mod Laying
+pub mod Sending
