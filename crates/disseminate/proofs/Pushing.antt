@@ -9,7 +9,7 @@ use lib.Dec.{leb}
 use lib.ListN.{length}
 use borrow.Author.Tests.{le-leb, lt-leb}
 use Rattle.model.specs.declared.Kind.the-variants as kind
-use Rattle.model.specs.declared.Refusal.the-variants.{HeapFull}
+use Rattle.model.specs.declared.Refusal.the-variants.{AliveFull, DeceasedFull}
 use Rattle.model.specs.Rows.{pick}
 use Rattle.model.specs.Answers.{done, refused, when}
 use Rattle.address.specs.Here.{Addr, here}
@@ -40,7 +40,7 @@ module _ (d : Disseminator) (p : PackedHeaps d) (g : W.Gossip Addr) where
   unfolding pushed when
   alive-pushed =
       elim (leb 128 (length (heapView (d .alive)))) as (λ u. record { disseminator = record { alive = answer (d .alive) (p .alive) g u .heap; deceased = d .deceased }; full = answer (d .alive) (p .alive) g u .full }
-      ≡ heldOr d (when u (refused HeapFull) (done (record { alive = push W.unused W.sendsOf (heapView (d .alive)) (entryOf here g); deceased = heapView (d .deceased) }) []))) [
+      ≡ heldOr d (when u (refused AliveFull) (done (record { alive = push W.unused W.sendsOf (heapView (d .alive)) (entryOf here g); deceased = heapView (d .deceased) }) []))) [
         | true ↦ refl
         | false ↦ λ i. record { disseminator = record { alive = emitted (d .alive) g; deceased = sym (pack-view (d .deceased) (p .deceased)) i }; full = false }
       ]
@@ -49,7 +49,7 @@ module _ (d : Disseminator) (p : PackedHeaps d) (g : W.Gossip Addr) where
   unfolding pushed when
   deceased-pushed =
       elim (leb 128 (length (heapView (d .deceased)))) as (λ u. record { disseminator = record { alive = d .alive; deceased = answer (d .deceased) (p .deceased) g u .heap }; full = answer (d .deceased) (p .deceased) g u .full }
-      ≡ heldOr d (when u (refused HeapFull) (done (record { alive = heapView (d .alive); deceased = push W.unused W.sendsOf (heapView (d .deceased)) (entryOf here g) }) []))) [
+      ≡ heldOr d (when u (refused DeceasedFull) (done (record { alive = heapView (d .alive); deceased = push W.unused W.sendsOf (heapView (d .deceased)) (entryOf here g) }) []))) [
         | true ↦ refl
         | false ↦ λ i. record { disseminator = record { alive = sym (pack-view (d .alive) (p .alive)) i; deceased = emitted (d .deceased) g }; full = false }
       ]

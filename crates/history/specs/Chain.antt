@@ -8,6 +8,7 @@ use Prim.Native.Nat.{ℕ, _<_}
 use native.Mathlib.Omega.{arith}
 use lib.ListN.{length, getD}
 use borrow.Author.Tests.{not-false}
+use Rattle.model.specs.declared.Cause.{Cause}
 use Rattle.model.specs.Rows.{every}
 use Rattle.laws.specs.Bools.{and-split}
 use Rattle.model.specs.Answers.{Answer, done, refused, andThen}
@@ -22,7 +23,7 @@ use Rattle.model.specs.Sound.{validGossip}
 use Rattle.laws_node.specs.Good.{Good, loaded-stored}
 use Rattle.laws_rules.specs.Keeps.{Keeps, add-keeps}
 use Rattle.laws_rules.specs.KeepsCalls.{handle-keeps, step-keeps, end-keeps, first-over-in}
-use Rattle.model.specs.Calls.{Outcome, StepOutcome, refuses, orAlready, whenDue, kept, keptStep, joins, addTests, messageTests, stepTests, timerTests, addPeer, message, detect, endsAt, endTimer, validAction, validState}
+use Rattle.model.specs.Calls.{Outcome, StepOutcome, refuses, orAlready, whenDue, kept, keptMessage, keptStep, joins, addTests, messageTests, stepTests, timerTests, addPeer, message, detect, endsAt, endTimer, validAction, validState}
 use Rattle.history.specs.Moments.{Deed, Told, Sender, Added, Asked, Other, Moment, momentOf, moment, silent, traceThen, steppedTo, traceGossip, traceSpread, traceAdmit, traceAck, traceMessage, pingedDeed, tracePing, traceAsk, traceStep, traceAdd, traceTimer, endedDeed}
 use Rattle.history.specs.Histories.{World, Call, Add, Receive, Step, Timer, outcome, endingAt, momentsBy, moments}
 use Rattle.history.specs.Tells.{targets, PingGoes, Leads, saidBy, deedsIn, Tells, records, messageDeeds, stepDeeds, timerDeeds, askedBy, deedsOf}
@@ -232,6 +233,11 @@ module _ {A : Type 0} (address : Address A) (lawful : Lawful address) (s : Node 
   effect-passes ds ms idle d halts = none-said seen
   effect-passes ds ms idle d (gives {b = e} q) = kept-as (q .0 .good) (q .1)
 
+  message-passes : (at : Cause) (ds : List ℕ) (ms idle : List (Moment A)) (d : List (Deed A)) {x : Answer (Effect A)} → After (λ e. Keeps address seen (e .node) × Tells seen ms (e .node) (e .events) d) x
+      → Passes (momentsBy address (keptMessage address (stored address s) at ds x .reply) ms idle) d (keptMessage address (stored address s) at ds x)
+  message-passes at ds ms idle d halts = none-said seen
+  message-passes at ds ms idle d (gives {b = e} {ds = rest} q) = effect-passes ds ms idle d (gives {b = e} {ds = rest} q)
+
   abbrev StepPasses : List (Moment A) → StepOutcome A → Type 0
   StepPasses ms o = Passes ms (stepDeeds address (w .state) (o .wait .state)) (o .outcome)
 
@@ -278,7 +284,7 @@ module _ {A : Type 0} (address : Address A) (lawful : Lawful address) (s : Node 
       (λ r. none-said seen)
       (λ p.
       let v = and-split (validAction address action) (every (validGossip address) gs) (not-false _ (p .1 .1 .1 .0)) in
-      effect-passes ds (traceMessage address action gs seen ds) [] (messageDeeds action gs)
+      message-passes _ ds (traceMessage address action gs seen ds) [] (messageDeeds action gs)
       (after-both (λ e x y. (x, y)) (handle-keeps address lawful action gs seen ds good (v .0) (v .1)) (message-tells address action gs seen ds)))
   call-tells (Step now ds lent) =
       first-cases (λ (o : StepOutcome A). StepPasses (momentsBy address (o .outcome .reply) (traceStep address (w .state) now seen ds) []) o) (stepTests address (stored address s) w lent) (λ r. record { outcome = refuses (stored address s) r; wait = w }) _

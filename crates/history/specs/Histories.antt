@@ -4,7 +4,7 @@ use mathlib.Core.List.{List, [], _∷_, _++_}
 use mathlib.Core.Option.{Option, none, some}
 use Prim.Native.Nat.{ℕ}
 use Rattle.model.specs.declared.Reply.{Reply}
-use Rattle.model.specs.declared.Reply.the-variants.{Done, Already, NotDue, Refused}
+use Rattle.model.specs.declared.Reply.the-variants.{Done, Already, NotDue, Refused, RefusedAt}
 use Rattle.model.specs.declared.Settings.{Settings}
 use Rattle.model.specs.Bounds.{Room}
 use Rattle.model.specs.Words.{Address, Gossip, Action, Wait, SendingPing}
@@ -64,6 +64,7 @@ module _ {A : Type 0} (address : Address A) where
   momentsBy Already ran idle = idle
   momentsBy NotDue ran idle = []
   momentsBy (Refused r) ran idle = []
+  momentsBy (RefusedAt r at) ran idle = []
 
   abbrev pub moments : Call A → World A → List (Moment A)
   moments c w = momentsBy (outcome c w .outcome .reply) (rulesOf c (loaded (w .node)) (w .wait)) (idleOf c (loaded (w .node)))

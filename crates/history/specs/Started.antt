@@ -7,8 +7,9 @@ use mathlib.Core.Option.{Option, none, some}
 use Prim.Native.Nat.{ℕ, zero, suc, _<_}
 use lib.ListN.{length, getD}
 use borrow.Author.Tests.{not-false}
+use Rattle.model.specs.declared.Cause.{Cause}
 use Rattle.model.specs.declared.Reply.{Reply}
-use Rattle.model.specs.declared.Reply.the-variants.{Done, Already, NotDue, Refused}
+use Rattle.model.specs.declared.Reply.the-variants.{Done, Already, NotDue, Refused, RefusedAt}
 use Rattle.model.specs.declared.Settings.{Settings}
 use Rattle.model.specs.declared.Kind.{Kind}
 use Rattle.model.specs.declared.Kind.the-variants as kind
@@ -53,6 +54,7 @@ module _ {A : Type 0} (address : Address A) where
   ifKept Already ts = []
   ifKept NotDue ts = []
   ifKept (Refused r) ts = []
+  ifKept (RefusedAt r at) ts = []
 
   abbrev pub startedIn : Call A → World A → List (Timer A)
   startedIn (Add a n ds) w = []
@@ -216,6 +218,11 @@ module _ {A : Type 0} (address : Address A) (lawful : Lawful address) (s : Node 
   effect-follows ds halts = stayed []
   effect-follows ds (gives {b = e} q) = kept-follows [] (e .node) (q .0 .good) (q .1)
 
+  message-follows : (at : Cause) (ds : List ℕ) {x : Answer (Effect A)} → After (λ e. Keeps address seen (e .node) × Within (e .node .timers) (seen .timers ++ [])) x
+      → Follows [] (calls.keptMessage address (stored address s) at ds x)
+  message-follows at ds halts = stayed []
+  message-follows at ds (gives {b = e} {ds = rest} q) = effect-follows ds (gives {b = e} {ds = rest} q)
+
   same-within : {ts : List (Timer A)} → ts ≡ seen .timers → Within ts (seen .timers ++ [])
   same-within {ts} e = subst (λ (x : List (Timer A)). Within x (seen .timers ++ [])) (sym e) (within-front (seen .timers) [])
 
@@ -254,7 +261,7 @@ module _ {A : Type 0} (address : Address A) (lawful : Lawful address) (s : Node 
       first-cases (Follows []) (calls.messageTests address (stored address s) action gs lent) (calls.refuses (stored address s)) _ (λ r. stayed [])
       (λ p.
       let v = and-split (calls.validAction address action) (every (validGossip address) gs) (not-false _ (p .1 .1 .1 .0)) in
-      effect-follows ds (after-both (λ e x y. (x, same-within y)) (handle-keeps address lawful action gs seen ds good (v .0) (v .1)) (message-alone address action gs seen ds)))
+      message-follows _ ds (after-both (λ e x y. (x, same-within y)) (handle-keeps address lawful action gs seen ds good (v .0) (v .1)) (message-alone address action gs seen ds)))
   call-follows (Step now ds lent) =
       first-cases (StepFollows now) (calls.stepTests address (stored address s) w lent) (λ r. record { outcome = calls.refuses (stored address s) r; wait = w }) _ (λ r. stayed [])
       (λ p.

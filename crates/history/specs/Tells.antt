@@ -6,7 +6,7 @@ use mathlib.Core.Option.{Option, none, some}
 use Prim.Native.Nat.{ℕ, zero, suc}
 use lib.ListN.{getD}
 use Rattle.model.specs.declared.Reply.{Reply}
-use Rattle.model.specs.declared.Reply.the-variants.{Done, Already, NotDue, Refused}
+use Rattle.model.specs.declared.Reply.the-variants.{Done, Already, NotDue, Refused, RefusedAt}
 use Rattle.model.specs.Bounds.{Room}
 use Rattle.model.specs.Words.{Address, Message, Gossip, Action, Ping, PingReq, Ack, WaitState, SendingPing, WaitingForPingAck, SendingPingReq, WaitingForPingReqAck, Declaring, noTimer}
 use Rattle.model.specs.Node.{Node, loaded}
@@ -86,6 +86,7 @@ module _ {A : Type 0} (address : Address A) where
   askedBy Already ds = ds
   askedBy NotDue ds = []
   askedBy (Refused r) ds = []
+  askedBy (RefusedAt r at) ds = []
 
   abbrev pub deedsOf : Call A → World A → List (Deed A)
   deedsOf c w = askedBy (outcome address c w .outcome .reply) (asked c w (outcome address c w .wait .state))

@@ -8,6 +8,7 @@ use Prim.Native.Nat.{ℕ, _+_, _<_}
 use lib.ListN.{length, getD}
 use native.Mathlib.Omega.{arith}
 use borrow.Author.Tests.{not-false}
+use Rattle.model.specs.declared.Cause.{Cause}
 use Rattle.model.specs.declared.Refusal.{Refusal}
 use Rattle.model.specs.declared.Settings.{Settings}
 use Rattle.model.specs.Rows.{one, pick, every}
@@ -22,7 +23,7 @@ use Rattle.model.specs.Sound.{inRange, validGossip}
 use Rattle.laws_node.specs.Good.{Good, loaded-stored}
 use Rattle.laws_rules.specs.Keeps.{Keeps, add-keeps}
 use Rattle.laws_rules.specs.KeepsCalls.{handle-keeps, step-keeps, end-keeps, first-over-in, fresh-good}
-use Rattle.model.specs.Calls.{Outcome, StepOutcome, firstOf, refuses, orAlready, whenDue, kept, keptStep, joins, addTests, messageTests, stepTests, timerTests, addPeer, message, detect, endsAt, endTimer, validAction, validState}
+use Rattle.model.specs.Calls.{Outcome, StepOutcome, firstOf, refuses, orAlready, whenDue, kept, keptMessage, keptStep, joins, addTests, messageTests, stepTests, timerTests, addPeer, message, detect, endsAt, endTimer, validAction, validState}
 use Rattle.history.specs.Moments.{Moment, Added, moment, silent, traceAdd, traceMessage, traceStep, traceTimer, endedDeed}
 use Rattle.history.specs.Ledger.{Tally, tally, begun}
 use Rattle.history.specs.Did.{Did, Kept}
@@ -85,6 +86,11 @@ module _ {A : Type 0} (address : Address A) (lawful : Lawful address) (a : A) wh
           fine = q .1 .fine;
         }
 
+    message-went : (at : Cause) (ds : List ℕ) (ms idle : List (Moment A)) {x : Answer (Effect A)} → After (λ e. Keeps address seen (e .node) × Walked address a own t ms (e .node)) x
+        → Went own t (momentsBy address (keptMessage address (stored address s) at ds x .reply) ms idle) (record { node = keptMessage address (stored address s) at ds x .node; wait = w })
+    message-went at ds ms idle halts = stayed
+    message-went at ds ms idle (gives {b = e} {ds = rest} q) = effect-went ds ms idle (gives {b = e} {ds = rest} q)
+
     step-went : (ds : List ℕ) (ms idle : List (Moment A)) {x : Answer (Stepped A)} → After (λ e. Keeps address seen (e .effect .node) × StepWalked address a own t ms e) x
         → Went own t (momentsBy address (keptStep address (stored address s) w ds x .outcome .reply) ms idle) (worldOf address (keptStep address (stored address s) w ds x))
     step-went ds ms idle halts = stayed
@@ -139,7 +145,7 @@ module _ {A : Type 0} (address : Address A) (lawful : Lawful address) (a : A) wh
         (λ r. stayed)
         (λ p.
         let v = and-split (validAction address action) (every (validGossip address) gs) (not-false _ (p .1 .1 .1 .0)) in
-        effect-went ds (traceMessage address action gs seen ds) []
+        message-went _ ds (traceMessage address action gs seen ds) []
         (after-both (λ e x y. (x, y)) (handle-keeps address lawful action gs seen ds good (v .0) (v .1)) (walk-message address a lawful own action gs seen ds t counted-so-far)))
     call-went (Step now ds lent) =
         first-cases (λ (o : StepOutcome A). Went own t (momentsBy address (o .outcome .reply) (traceStep address (w .state) now seen ds) []) (worldOf address o)) (stepTests address (stored address s) w lent) (λ r. record { outcome = refuses (stored address s) r; wait = w }) _

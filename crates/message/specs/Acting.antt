@@ -11,10 +11,9 @@ use borrow.Author.Tests.{leb-false}
 use Rattle.model.specs.declared.Kind.{Kind}
 use Rattle.model.specs.declared.Kind.the-variants as kind
 use Rattle.model.specs.declared.Refusal.{Refusal}
-use Rattle.model.specs.declared.Refusal.the-variants.{HeapFull}
 use Rattle.model.specs.declared.Drew.the-variants.{Used, Refused}
 use Rattle.model.specs.Rows.{one}
-use Rattle.model.specs.Answers.{Answer, done, refused, andThen, when}
+use Rattle.model.specs.Answers.{Answer, done, refused, andThen, when, fullOf}
 use Rattle.address.specs.Here.{Addr, here}
 use Rattle.model.specs.Words as W
 use Rattle.model.specs.Heap.{push}
@@ -34,14 +33,14 @@ use Rattle.node.specs.declared.Node.{Node}
 use Rattle.node.specs.Views.{viewNode, packNode, withMembers, withDisseminator}
 use Rattle.node.specs.Rows.{Ready}
 use Rattle.node.specs.Parts.{ready-is}
-use Rattle.message.specs.Views.{findsFull, RoomFor, toldTo, saidBy}
+use Rattle.message.specs.Views.{findsFull, fullFor, RoomFor, toldTo, saidBy}
 use Rattle.message.specs.Drawn.{list-leaves}
 
 -- what comes after an answer that was refused or not
-when-then : (u : Bool) (x : M.Disseminator Addr) (rest : List ℕ) (f : M.Disseminator Addr → List ℕ → Answer (M.Out Addr)) → andThen (when u (refused HeapFull) (done x rest)) f ≡ when u (refused HeapFull) (f x rest)
+when-then : (u : Bool) (full : Refusal) (x : M.Disseminator Addr) (rest : List ℕ) (f : M.Disseminator Addr → List ℕ → Answer (M.Out Addr)) → andThen (when u (refused full) (done x rest)) f ≡ when u (refused full) (f x rest)
 unfolding when
-when-then true x rest f = refl
-when-then false x rest f = refl
+when-then true full x rest f = refl
+when-then false full x rest f = refl
 
 -- there is room in the heap that news goes to
 pub room-for : (w : handler.News Addr) (k : Kind) (alive deceased : ℕ) → findsFull w alive deceased ≡ false → RoomFor k w (ofKind k alive deceased)
@@ -119,23 +118,23 @@ module _ (n : Node) (r : Ready n) (v : handler.Verdict Addr) (draws : List ℕ) 
 
     -- news is told by what is asked of the heap's length
     tells : (w : handler.News Addr) (s : M.Node Addr) → s .disseminator ≡ viewDisseminator (n .disseminator) → (rest : List ℕ)
-        → handler.tell here w s rest ≡ when (full w) (refused HeapFull) (done (record { node = M.withDisseminator s (afterNews w); said = saidBy w }) rest)
+        → handler.tell here w s rest ≡ when (full w) (refused (fullFor w)) (done (record { node = M.withDisseminator s (afterNews w); said = saidBy w }) rest)
     unfolding M.emit M.pushed M.quiet when
     tells handler.Silent s q rest = λ i. done (record { node = M.withDisseminator s (q i); said = [] }) rest
     tells (handler.Emits j e) s q rest =
         let g : W.Gossip Addr = record { event = e } in
         let said : M.Disseminator Addr → List ℕ → Answer (M.Out Addr) = λ d rest₂. done (record { node = M.withDisseminator s d; said = g ∷ [] }) rest₂ in
         ap (λ (y : M.Disseminator Addr). andThen (M.pushed here j g y rest) said) q
-        ∙ ap (λ (h : ℕ). andThen (when (leb 128 h) (refused HeapFull) (done (afterNews (handler.Emits j e)) rest)) said) (held-is j)
-        ∙ when-then (full (handler.Emits j e)) (afterNews (handler.Emits j e)) rest said
+        ∙ ap (λ (h : ℕ). andThen (when (leb 128 h) (refused (fullOf j)) (done (afterNews (handler.Emits j e)) rest)) said) (held-is j)
+        ∙ when-then (full (handler.Emits j e)) (fullOf j) (afterNews (handler.Emits j e)) rest said
 
     -- the heap was full
-    pub act-full : full news ≡ true → whole ≡ refused HeapFull
+    pub act-full : full news ≡ true → whole ≡ refused (fullFor news)
     unfolding viewNode when
     act-full f =
         then-tells
         ∙ tells news (M.withMembers (viewNode n) (listed .gave)) refl (listed .rest)
-        ∙ ap (λ (u : Bool). when u (refused HeapFull) (done (record { node = M.withDisseminator (M.withMembers (viewNode n) (listed .gave)) (afterNews news); said = saidBy news }) (listed .rest))) f
+        ∙ ap (λ (u : Bool). when u (refused (fullFor news)) (done (record { node = M.withDisseminator (M.withMembers (viewNode n) (listed .gave)) (afterNews news); said = saidBy news }) (listed .rest))) f
 
     -- all is carried out
     pub act-done : (a d : Heap) → a ≡ toldTo kind.Alive news (n .disseminator .alive) → d ≡ toldTo kind.Deceased news (n .disseminator .deceased) → full news ≡ false
@@ -150,7 +149,7 @@ module _ (n : Node) (r : Ready n) (v : handler.Verdict Addr) (draws : List ℕ) 
           is =
               then-tells
               ∙ tells news s refl (listed .rest)
-              ∙ ap (λ (u : Bool). when u (refused HeapFull) (done (record { node = M.withDisseminator s (afterNews news); said = saidBy news }) (listed .rest))) f;
+              ∙ ap (λ (u : Bool). when u (refused (fullFor news)) (done (record { node = M.withDisseminator s (afterNews news); said = saidBy news }) (listed .rest))) f;
           node = λ i. record { settings = n .settings; own = n .own; members = kept i; disseminator = (heaps a d is-a is-d) i; timers = t i };
           said = refl;
           left = listed .next;

@@ -3,7 +3,7 @@
 use mathlib.Core.List.{List, _++_, map}
 use Prim.Native.Nat.{ℕ, _-_}
 use lib.ListN.{length, take, replicate, set}
-use Rattle.model.specs.declared.Refusal.{Refusal}
+use Rattle.model.specs.declared.Reply.{Reply}
 use Rattle.model.specs.declared.Reply.the-variants as reply
 use Rattle.model.specs.Rows.{padTo}
 use Rattle.address.specs.Here.{Addr, here}
@@ -31,8 +31,8 @@ noRows = replicate 64 noGossip
 abbrev pub oneLetter : ℕ → Node → Letter → Answer
 oneLetter used n l = record { reply = reply.Done used; node = n; letters = set (replicate 4 noLetter) 0 l; sent = 1 }
 
-abbrev pub refusedReceived : Node → Refusal → Received
-refusedReceived n r = record { answer = plainAnswer (reply.Refused r) n; gossip = noRows; written = 0; events = replicate 65 noGossip; reported = 0 }
+abbrev pub refusedReceived : Node → Reply → Received
+refusedReceived n r = record { answer = plainAnswer r n; gossip = noRows; written = 0; events = replicate 65 noGossip; reported = 0 }
 
 -- one message goes out with gossip chosen for it
 abbrev pub answeredOf : ℕ → Heard → Addr → Action → Received
@@ -85,7 +85,7 @@ receivedOf o =
 
 -- the outcome of the rules of a message, on a node that passed the tests
 abbrev pub handledOf : Node → W.Action Addr → List Gossip → ℕ → List ℕ → Received
-handledOf n a rows given draws = receivedOf (calls.kept here (storedView n) draws (handler.handle here a (recordsOf rows given) (viewNode n) draws))
+handledOf n a rows given draws = receivedOf (calls.keptMessage here (storedView n) (handler.stopsAt here (recordsOf rows given) (viewNode n) draws) draws (handler.handle here a (recordsOf rows given) (viewNode n) draws))
 
 -- the records that a host lends: the first of them stand in a row, and of those past 64 only how many there are plays a part
 unfoldable pub lentRows : List Gossip → ℕ → List (W.Gossip Addr)

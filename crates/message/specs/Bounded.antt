@@ -7,7 +7,8 @@ use mathlib.Core.Option.{none, some}
 use Prim.Native.Nat.{ℕ, _≤_}
 use native.Mathlib.Omega.{arith}
 use lib.ListN.{length, length-append}
-use Rattle.model.specs.declared.Refusal.{Refusal}
+use Rattle.model.specs.declared.Cause.{Cause}
+use Rattle.model.specs.declared.Reply.{Reply}
 use Rattle.model.specs.declared.Kind.the-variants as kind
 use Rattle.model.specs.Rows.{every}
 use Rattle.laws.specs.Bools.{and-split}
@@ -64,20 +65,20 @@ module _ (gs : List (W.Gossip Addr)) (s : M.Node Addr) (ds : List ℕ) (good : G
   handled (W.Ack from none) v = after-then heard (λ o rest p. gives (omega arith, omega (arith, p .1)))
   handled (W.Ack from (some to)) v = after-then heard (λ o rest p. gives (omega (arith, few, length-append gs []), omega (arith, p .1)))
 
-  kept-within : (t : M.Stored Addr) (x : Answer (M.Effect Addr)) → After Within x → (receivedOf (calls.kept here t ds x) .written ≤ 64) × (receivedOf (calls.kept here t ds x) .reported ≤ 65)
+  kept-within : (t : M.Stored Addr) (at : Cause) (x : Answer (M.Effect Addr)) → After Within x → (receivedOf (calls.keptMessage here t at ds x) .written ≤ 64) × (receivedOf (calls.keptMessage here t at ds x) .reported ≤ 65)
   unfolding receivedOf
-  kept-within t (refused r) p = (omega arith, omega arith)
-  kept-within t (done e rest) (gives p) = p
+  kept-within t at (refused r) p = (omega arith, omega arith)
+  kept-within t at (done e rest) (gives p) = p
 
   -- the rows of a message call have room for what it gives
-  pub received-within : (action : W.Action Addr) → calls.validAction here action ≡ true → (t : M.Stored Addr) (r : Received) → r ≡ receivedOf (calls.kept here t ds (handler.handle here action gs s ds))
+  pub received-within : (action : W.Action Addr) → calls.validAction here action ≡ true → (t : M.Stored Addr) (at : Cause) (r : Received) → r ≡ receivedOf (calls.keptMessage here t at ds (handler.handle here action gs s ds))
       → (r .written ≤ 64) × (r .reported ≤ 65)
-  received-within action v t r e =
-      let k = kept-within t (handler.handle here action gs s ds) (handled action v) in
+  received-within action v t at r e =
+      let k = kept-within t at (handler.handle here action gs s ds) (handled action v) in
       (omega (arith, k .0, ap (λ (x : Received). x .written) e), omega (arith, k .1, ap (λ (x : Received). x .reported) e))
 
 -- a refusal writes and reports nothing
-pub refused-within : (n : Node) (u : Refusal) (r o : Received) (gossips events : ℕ) → r ≡ refusedReceived n u → refusedReceived n u ≡ o
+pub refused-within : (n : Node) (u : Reply) (r o : Received) (gossips events : ℕ) → r ≡ refusedReceived n u → refusedReceived n u ≡ o
     → (r ≡ o) × (r .written ≤ gossips) × (r .written ≤ 64) × (r .reported ≤ events) × (r .reported ≤ 65)
 refused-within n u r o gossips events e p =
     let w = ap (λ (x : Received). x .written) e in

@@ -11,6 +11,8 @@ use native.Mathlib.Nat.{not-suc-le-zero, le-of-suc-le-suc}
 use lib.ListN.{length, getD, set, take, drop, replicate, length-append, length-drop, length-map, List·getD-map}
 use lib.Seq.{length-take-le, getD-take}
 use Rattle.model.specs.declared.Refusal.{Refusal}
+use Rattle.model.specs.declared.Cause.{Cause}
+use Rattle.model.specs.declared.Cause.the-variants.{Sender}
 use Rattle.model.specs.declared.Drew.the-variants.{Used}
 use Rattle.model.specs.Rows.{padTo, every}
 use Rattle.laws.specs.Bools.{and-split}
@@ -90,6 +92,21 @@ module _ (sender : Option Addr) where
   ahead-next [] (suc i) h m ds = absurd (not-suc-le-zero h)
   ahead-next (g ∷ gs) zero h m ds = more-assoc (handler.item here (g .event) m ds) (handler.gossip here gs) (senderRule sender)
   ahead-next (g ∷ gs) (suc i) h m ds = ahead-next gs i (le-of-suc-le-suc h) m ds
+
+  -- a turn that is refused gets through no more records, and one that is kept through one more
+  none-through : (gs : List (W.Gossip Addr)) (i : ℕ) (s : M.Node Addr) (ds : List ℕ) (u : Refusal) → i ≤ length gs → turn gs i s ds ≡ refused u → handler.through here (drop i gs) s ds ≡ 0
+  unfolding verdictAt handler.item
+  none-through [] zero s ds u h e = refl
+  none-through [] (suc i) s ds u h e = absurd (not-suc-le-zero h)
+  none-through (g ∷ gs) zero s ds u h e = ap (λ (x : Answer (M.Out Addr)). handler.countOn here x (handler.through here gs)) e
+  none-through (g ∷ gs) (suc i) s ds u h e = none-through gs i s ds u (le-of-suc-le-suc h) e
+
+  one-through : (gs : List (W.Gossip Addr)) (i : ℕ) (s : M.Node Addr) (ds : List ℕ) (o : M.Out Addr) (rest : List ℕ) → i < length gs → turn gs i s ds ≡ done o rest
+      → handler.through here (drop i gs) s ds ≡ suc (handler.through here (drop (suc i) gs) (o .node) rest)
+  unfolding verdictAt handler.item
+  one-through [] i s ds o rest h e = absurd (not-suc-le-zero h)
+  one-through (g ∷ gs) zero s ds o rest h e = ap (λ (x : Answer (M.Out Addr)). handler.countOn here x (handler.through here gs)) e
+  one-through (g ∷ gs) (suc i) s ds o rest h e = one-through gs i s ds o rest (le-of-suc-le-suc h) e
 
   ahead-over : (gs : List (W.Gossip Addr)) (i : ℕ) → length gs < i → (m : M.Node Addr) (ds : List ℕ) → ahead gs i m ds ≡ M.quiet m ds
   ahead-over gs zero h m ds = absurd (not-suc-le-zero h)
@@ -174,6 +191,33 @@ pub record Sofar (all : Answer (M.Out Addr)) (left : Rule) (draws : List ℕ) (u
 abbrev pub unreported : Report
 unreported = record { events = replicate 65 noGossip; count = 0 }
 
+-- the rules got through the records before i, and go on with the others
+pub record Counted (gs : List (W.Gossip Addr)) (s : M.Node Addr) (draws : List ℕ) (used i : ℕ) (n : Node) : Type 0 where
+  pub count : i ≤ length gs → handler.through here gs s draws ≡ i + handler.through here (drop i gs) (viewNode n) (drop used draws)
+
+-- the node that a kept turn left, read again
+acted-view : (n : Node) {x : Answer (M.Out Addr)} {w : handler.News Addr} {m : Node} {draws : List ℕ} {next : ℕ} → After (λ o. Keeps here (viewNode n) (o .node)) x → (a : Acted x w m draws next)
+    → viewNode m ≡ a .out .node
+acted-view n keeps a = ap viewNode (a .node) ∙ nodes.view-pack (a .out .node) (given (rw (a .is) at keeps) .good .whole)
+
+module _ (sender : Option Addr) (gs : List (W.Gossip Addr)) (s : M.Node Addr) (draws : List ℕ) (used i : ℕ) (n : Node) (c : Counted gs s draws used i n) where
+  -- where the rules stop
+  pub counted-stops : i ≤ length gs → (u : Refusal) → turn sender gs i (viewNode n) (drop used draws) ≡ refused u → handler.stopsAt here gs s draws ≡ handler.causeAt i (length gs)
+  unfolding handler.stopsAt
+  counted-stops h u e =
+      let k : handler.through here gs s draws ≡ i = c .count h ∙ omega (arith, none-through sender gs i (viewNode n) (drop used draws) u h e) in
+      ap (λ (j : ℕ). handler.causeAt j (length gs)) k
+
+  pub counted-next : (w : handler.News Addr) (m : Node) (next : ℕ) → After (λ o. Keeps here (viewNode n) (o .node)) (turn sender gs i (viewNode n) (drop used draws))
+      → Acted (turn sender gs i (viewNode n) (drop used draws)) w m draws next → Counted gs s draws next (i + 1) m
+  counted-next w m next keeps a =
+      record {
+        count = λ h.
+            let on : handler.through here (drop (suc i) gs) (a .out .node) (a .rest) ≡ handler.through here (drop (i + 1) gs) (viewNode m) (drop next draws) =
+            λ j. handler.through here (drop (sym (add-one i) j) gs) (sym (acted-view n keeps a) j) (sym (a .left) j) in
+            c .count (omega (arith, h)) ∙ omega (arith, one-through sender gs i (viewNode n) (drop used draws) (a .out) (a .rest) (omega (arith, h)) (a .is), on);
+      }
+
 module _ (all : Answer (M.Out Addr)) (draws : List ℕ) where
   -- nothing is heard yet
   pub sofar-start : (n : Node) (left : Rule) → Ready n → all ≡ left (viewNode n) draws → Sofar all left draws 0 n unreported
@@ -213,14 +257,14 @@ module _ (all : Answer (M.Out Addr)) (draws : List ℕ) where
         })
 
   -- all is heard
-  pub sofar-ends : (n₀ n : Node) (r : Report) (used : ℕ) → Sofar all M.quiet draws used n r → record { node = n; events = r .events; reported = r .count; drew = Used used } ≡ heardOf n₀ draws all
+  pub sofar-ends : (n₀ n : Node) (at : Cause) (r : Report) (used : ℕ) → Sofar all M.quiet draws used n r → record { node = n; events = r .events; reported = r .count; drew = Used used; at = Sender } ≡ heardOf n₀ draws at all
   unfolding M.quiet
-  sofar-ends n₀ n r used s =
+  sofar-ends n₀ n at r used s =
       let e : saidIn r ++ [] ≡ saidIn r = append-nil (saidIn r) in
       let ev : r .events ≡ padTo 65 noGossip (map fromGossip (saidIn r ++ [])) = sym (ap (λ (l : List (W.Gossip Addr)). padTo 65 noGossip (map fromGossip l)) e ∙ pack-view toGossip fromGossip from-to-gossip 65 noGossip (r .events) (r .count) (s .row)) in
       let rp : r .count ≡ length (saidIn r ++ []) = sym (ap length e ∙ view-length toGossip fromGossip from-to-gossip 65 noGossip (r .events) (r .count) (s .row)) in
       let us : used ≡ length draws - length (drop used draws) = omega (arith, length-drop used draws, s .within) in
-      rw (s .whole) (λ i. record { node = sym (ready-is n (s .ready)) i; events = ev i; reported = rp i; drew = Used (us i) })
+      rw (s .whole) (λ i. record { node = sym (ready-is n (s .ready)) i; events = ev i; reported = rp i; drew = Used (us i); at = Sender })
 
 module _ (sender : Option Addr) (gs : List (W.Gossip Addr)) (all : Answer (M.Out Addr)) (draws : List ℕ) (used i : ℕ) (n : Node) (r : Report) (s : Sofar all (ahead sender gs i) draws used n r) where
   pub sofar-next : i ≤ length gs → Sofar all (λ m ds. M.andMore (turn sender gs i m ds) (ahead sender gs (i + 1))) draws used n r

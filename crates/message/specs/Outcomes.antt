@@ -7,6 +7,8 @@ use Prim.Native.Nat.{ℕ, _-_}
 use native.Mathlib.Omega.{arith}
 use lib.ListN.{length, take, replicate}
 use Rattle.model.specs.declared.Refusal.{Refusal}
+use Rattle.model.specs.declared.Cause.{Cause}
+use Rattle.model.specs.declared.Reply.{Reply}
 use Rattle.model.specs.declared.Reply.the-variants as reply
 use Rattle.model.specs.Rows.{padTo}
 use Rattle.model.specs.Answers.{Answer, done, refused, andThen}
@@ -39,31 +41,33 @@ isUsed (Used k) = 1
 isUsed (Refused r) = 0
 
 -- a refused call gives the node as it came, and writes nothing
-pub refused-is : (n : Node) (r : Refusal) → refusedReceived n r ≡ receivedOf (calls.refuses (storedView n) r)
+pub refused-is : (n : Node) (r : Reply) → refusedReceived n r ≡ receivedOf (calls.unchanged r (storedView n))
 unfolding receivedOf
-refused-is n r = λ i. record { answer = sym (unchanged-is (reply.Refused r) n) i; gossip = noRows; written = 0; events = replicate 65 noGossip; reported = 0 }
+refused-is n r = λ i. record { answer = sym (unchanged-is r n) i; gossip = noRows; written = 0; events = replicate 65 noGossip; reported = 0 }
 
 -- what was heard and kept is ready for more
-pub heard-ready : (n : Node) (draws : List ℕ) (x : Answer (M.Out Addr)) (h : Heard) → After (λ o. Keeps here (viewNode n) (o .node)) x → h ≡ heardOf n draws x
+pub heard-ready : (n : Node) (draws : List ℕ) (at : Cause) (x : Answer (M.Out Addr)) (h : Heard) → After (λ o. Keeps here (viewNode n) (o .node)) x → h ≡ heardOf n draws at x
     → (used : ℕ) → h .drew ≡ Used used → Ready (h .node)
 unfolding isUsed
-heard-ready n draws (refused u) h k e used d = let z : _≡_ {A = ℕ} 0 1 = ap isUsed (ap (λ (v : Heard). v .drew) (sym e) ∙ d) in absurd (omega arith)
-heard-ready n draws (done o rest) h (gives k) e used d = rw e (ready-pack (o .node) (k .good))
+heard-ready n draws at (refused u) h k e used d = let z : _≡_ {A = ℕ} 0 1 = ap isUsed (ap (λ (v : Heard). v .drew) (sym e) ∙ d) in absurd (omega arith)
+heard-ready n draws at (done o rest) h (gives k) e used d = rw e (ready-pack (o .node) (k .good))
 
-module _ (n : Node) (draws : List ℕ) where
+module _ (n : Node) (draws : List ℕ) (at : Cause) where
   -- a rule was refused, and so is the call
-  pub refused-heard : (x : Answer (M.Out Addr)) (h : Heard) (u : Refusal) (f : M.Out Addr → List ℕ → Answer (M.Effect Addr)) → h ≡ heardOf n draws x → h .drew ≡ Refused u
-      → refusedReceived n u ≡ receivedOf (calls.kept here (storedView n) draws (andThen x f))
+  pub refused-heard : (x : Answer (M.Out Addr)) (h : Heard) (u : Refusal) (f : M.Out Addr → List ℕ → Answer (M.Effect Addr)) → h ≡ heardOf n draws at x → h .drew ≡ Refused u
+      → refusedReceived n (reply.RefusedAt u (h .at)) ≡ receivedOf (calls.keptMessage here (storedView n) at draws (andThen x f))
   unfolding isUsed
-  refused-heard (refused w) h u f e d = let z : _≡_ {A = Drew} (Refused w) (Refused u) = ap (λ (v : Heard). v .drew) (sym e) ∙ d in let q : w ≡ u = cc in ap (refusedReceived n) (sym q) ∙ refused-is n w
+  refused-heard (refused w) h u f e d = let z : _≡_ {A = Drew} (Refused w) (Refused u) = ap (λ (v : Heard). v .drew) (sym e) ∙ d in
+      let q : w ≡ u = cc in
+      (λ i. refusedReceived n (reply.RefusedAt (sym q i) (e i .at))) ∙ refused-is n (reply.RefusedAt w at)
   refused-heard (done o rest) h u f e d = let z : _≡_ {A = ℕ} 1 0 = ap isUsed (ap (λ (v : Heard). v .drew) (sym e) ∙ d) in absurd (omega arith)
 
   -- what was used
-  all-used : (o : M.Out Addr) (rest : List ℕ) (h : Heard) (used : ℕ) → h ≡ heardOf n draws (done o rest) → h .drew ≡ Used used → used ≡ length draws - length rest
+  all-used : (o : M.Out Addr) (rest : List ℕ) (h : Heard) (used : ℕ) → h ≡ heardOf n draws at (done o rest) → h .drew ≡ Used used → used ≡ length draws - length rest
   all-used o rest h used e d = let z : _≡_ {A = Drew} (Used used) (Used (length draws - length rest)) = sym d ∙ ap (λ (v : Heard). v .drew) e in cc
 
   -- one message with gossip chosen for it
-  sent : (o : M.Out Addr) (rest : List ℕ) (h : Heard) (target : Addr) (a : Action) (c : M.Spread Addr) → h ≡ heardOf n draws (done o rest) → M.spread here (viewNode (packNode (o .node))) ≡ c
+  sent : (o : M.Out Addr) (rest : List ℕ) (h : Heard) (target : Addr) (a : Action) (c : M.Spread Addr) → h ≡ heardOf n draws at (done o rest) → M.spread here (viewNode (packNode (o .node))) ≡ c
       → answeredOf (length draws - length rest) h target a
       ≡ receivedOf (record { reply = reply.Done (length draws - length rest); node = M.stored here (c .node); messages = record { target = target; action = toAction a; gossip = c .gossip } ∷ []; events = o .said })
   unfolding receivedOf answerOf
@@ -92,8 +96,8 @@ module _ (n : Node) (draws : List ℕ) where
         reported = length (o .said);
       })
 
-  pub answered-is : (x : Answer (M.Out Addr)) (h : Heard) (used : ℕ) (target : Addr) (a : Action) → After (λ o. Keeps here (viewNode n) (o .node)) x → h ≡ heardOf n draws x → h .drew ≡ Used used
-      → answeredOf used h target a ≡ receivedOf (calls.kept here (storedView n) draws (andThen x λ o rest. done (handler.answerTo here target (toAction a) o) rest))
+  pub answered-is : (x : Answer (M.Out Addr)) (h : Heard) (used : ℕ) (target : Addr) (a : Action) → After (λ o. Keeps here (viewNode n) (o .node)) x → h ≡ heardOf n draws at x → h .drew ≡ Used used
+      → answeredOf used h target a ≡ receivedOf (calls.keptMessage here (storedView n) at draws (andThen x λ o rest. done (handler.answerTo here target (toAction a) o) rest))
   unfolding handler.answerTo isUsed
   answered-is (refused u) h used target a k e d = let z : _≡_ {A = ℕ} 0 1 = ap isUsed (ap (λ (v : Heard). v .drew) (sym e) ∙ d) in absurd (omega arith)
   answered-is (done o rest) h used target a (gives k) e d =
@@ -101,8 +105,8 @@ module _ (n : Node) (draws : List ℕ) where
       ∙ sent o rest h target a (M.spread here (o .node)) e (ap (M.spread here) (view-pack (o .node) (k .good .whole)))
 
   -- an Ack's sender is Alive, and nothing is sent
-  settled : (o : M.Out Addr) (rest : List ℕ) (h : Heard) (from : Addr) (gs : List (W.Gossip Addr)) → h ≡ heardOf n draws (done o rest) → Keeps here (viewNode n) (o .node)
-      → settledOf (length draws - length rest) h from ≡ receivedOf (calls.kept here (storedView n) draws (done (handler.forwarded here from none gs o) rest))
+  settled : (o : M.Out Addr) (rest : List ℕ) (h : Heard) (from : Addr) (gs : List (W.Gossip Addr)) → h ≡ heardOf n draws at (done o rest) → Keeps here (viewNode n) (o .node)
+      → settledOf (length draws - length rest) h from ≡ receivedOf (calls.keptMessage here (storedView n) at draws (done (handler.forwarded here from none gs o) rest))
   unfolding handler.forwarded receivedOf answerOf
   settled o rest h from gs e k =
       let node : packNode (handler.acked here from (viewNode (packNode (o .node)))) ≡ unstored (M.stored here (handler.acked here from (o .node))) =
@@ -117,9 +121,9 @@ module _ (n : Node) (draws : List ℕ) where
       })
 
   -- an Ack goes on, with the gossip that it came with
-  forwarded : (o : M.Out Addr) (rest : List ℕ) (h : Heard) (from to : Addr) (rows : List Gossip) (given : ℕ) → Heeded rows given → h ≡ heardOf n draws (done o rest)
+  forwarded : (o : M.Out Addr) (rest : List ℕ) (h : Heard) (from to : Addr) (rows : List Gossip) (given : ℕ) → Heeded rows given → h ≡ heardOf n draws at (done o rest)
       → forwardedOf (length draws - length rest) h from to rows given
-      ≡ receivedOf (calls.kept here (storedView n) draws (done (handler.forwarded here from (some to) (recordsOf rows given) o) rest))
+      ≡ receivedOf (calls.keptMessage here (storedView n) at draws (done (handler.forwarded here from (some to) (recordsOf rows given) o) rest))
   unfolding handler.forwarded receivedOf answerOf
   forwarded o rest h from to rows given heeded e =
       let gs : List (W.Gossip Addr) = recordsOf rows given in
@@ -141,15 +145,15 @@ module _ (n : Node) (draws : List ℕ) where
         reported = length (o .said);
       })
 
-  acknowledged : (o : M.Out Addr) (rest : List ℕ) (h : Heard) (from : Addr) (rows : List Gossip) (given : ℕ) (to : Optional) → Heeded rows given → h ≡ heardOf n draws (done o rest) → Keeps here (viewNode n) (o .node)
+  acknowledged : (o : M.Out Addr) (rest : List ℕ) (h : Heard) (from : Addr) (rows : List Gossip) (given : ℕ) (to : Optional) → Heeded rows given → h ≡ heardOf n draws at (done o rest) → Keeps here (viewNode n) (o .node)
       → acknowledgedOf (length draws - length rest) h from rows given to
-      ≡ receivedOf (calls.kept here (storedView n) draws (done (handler.forwarded here from (toOptional to) (recordsOf rows given) o) rest))
+      ≡ receivedOf (calls.keptMessage here (storedView n) at draws (done (handler.forwarded here from (toOptional to) (recordsOf rows given) o) rest))
   acknowledged o rest h from rows given Absent heeded e k = settled o rest h from (recordsOf rows given) e k
   acknowledged o rest h from rows given (Given to) heeded e k = forwarded o rest h from to rows given heeded e
 
   pub acknowledged-is : (x : Answer (M.Out Addr)) (h : Heard) (used : ℕ) (from : Addr) (rows : List Gossip) (given : ℕ) (to : Optional) → Heeded rows given → After (λ o. Keeps here (viewNode n) (o .node)) x
-      → h ≡ heardOf n draws x → h .drew ≡ Used used
-      → acknowledgedOf used h from rows given to ≡ receivedOf (calls.kept here (storedView n) draws (andThen x λ o rest. done (handler.forwarded here from (toOptional to) (recordsOf rows given) o) rest))
+      → h ≡ heardOf n draws at x → h .drew ≡ Used used
+      → acknowledgedOf used h from rows given to ≡ receivedOf (calls.keptMessage here (storedView n) at draws (andThen x λ o rest. done (handler.forwarded here from (toOptional to) (recordsOf rows given) o) rest))
   unfolding isUsed
   acknowledged-is (refused u) h used from rows given to heeded k e d = let z : _≡_ {A = ℕ} 0 1 = ap isUsed (ap (λ (v : Heard). v .drew) (sym e) ∙ d) in absurd (omega arith)
   acknowledged-is (done o rest) h used from rows given to heeded (gives k) e d =

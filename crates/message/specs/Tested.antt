@@ -10,6 +10,7 @@ use lib.Dec.{ltb}
 use borrow.Author.Tests.{lt-ltb, le-ltb}
 use Rattle.model.specs.declared.Refusal.{Refusal}
 use Rattle.model.specs.declared.Refusal.the-variants.{Unsound, ShortRow, ManyRecords, AddressRange}
+use Rattle.model.specs.declared.Reply.the-variants.{Refused}
 use Rattle.model.specs.Bounds.{Room}
 use Rattle.model.specs.Rows.{every}
 use Rattle.address.specs.Here.{Addr, here}
@@ -48,8 +49,12 @@ module _ (n : Node) (action : W.Action Addr) (rows : List Gossip) (given : ℕ) 
   abbrev gs : List (W.Gossip Addr)
   gs = lentRows rows given
 
+  -- the rules on some records and a node
+  abbrev ruled : List (W.Gossip Addr) → M.Node Addr → calls.Outcome Addr
+  ruled l m = calls.keptMessage here s (handler.stopsAt here l m draws) draws (handler.handle here action l m draws)
+
   abbrev go : calls.Outcome Addr
-  go = calls.kept here s draws (handler.handle here action gs (M.loaded s) draws)
+  go = ruled gs (M.loaded s)
 
   abbrev one : Bool × Refusal
   one = (not (sound here s), Unsound)
@@ -66,22 +71,22 @@ module _ (n : Node) (action : W.Action Addr) (rows : List Gossip) (given : ℕ) 
   abbrev whole : calls.Outcome Addr
   whole = calls.message here s action gs draws lent
 
-  pub not-sound : sound here s ≡ false → refusedReceived n Unsound ≡ receivedOf whole
+  pub not-sound : sound here s ≡ false → refusedReceived n (Refused Unsound) ≡ receivedOf whole
   unfolding calls.message
-  not-sound e = refused-is n Unsound ∙ sym (ap receivedOf (test-fails one (two ∷ three ∷ four ∷ []) (calls.refuses s) go (ap not e)))
+  not-sound e = refused-is n (Refused Unsound) ∙ sym (ap receivedOf (test-fails one (two ∷ three ∷ four ∷ []) (calls.refuses s) go (ap not e)))
 
   module _ (e : sound here s ≡ true) where
-    pub row-short : calls.short Rattle.model.specs.Bounds.message-room lent ≡ true → refusedReceived n ShortRow ≡ receivedOf whole
+    pub row-short : calls.short Rattle.model.specs.Bounds.message-room lent ≡ true → refusedReceived n (Refused ShortRow) ≡ receivedOf whole
     unfolding calls.message
     row-short p =
-        refused-is n ShortRow
+        refused-is n (Refused ShortRow)
         ∙ sym (ap receivedOf (test-passes one (two ∷ three ∷ four ∷ []) (calls.refuses s) go (ap not e) ∙ test-fails two (three ∷ four ∷ []) (calls.refuses s) go p))
 
     module _ (p : calls.short Rattle.model.specs.Bounds.message-room lent ≡ false) where
-      pub too-many : 64 < given → refusedReceived n ManyRecords ≡ receivedOf whole
+      pub too-many : 64 < given → refusedReceived n (Refused ManyRecords) ≡ receivedOf whole
       unfolding calls.message
       too-many h =
-          refused-is n ManyRecords
+          refused-is n (Refused ManyRecords)
           ∙ sym
           (ap receivedOf
           (test-passes one (two ∷ three ∷ four ∷ []) (calls.refuses s) go (ap not e)
@@ -96,17 +101,17 @@ module _ (n : Node) (action : W.Action Addr) (rows : List Gossip) (given : ℕ) 
             ∙ test-passes two (three ∷ four ∷ []) (calls.refuses s) go p
             ∙ test-passes three (four ∷ []) (calls.refuses s) go (le-ltb 64 (length gs) (omega (arith, lent-count rows given long)))
 
-        pub out-of-range : (calls.validAction here action && every (validGossip here) (map toGossip (take given rows))) ≡ false → refusedReceived n AddressRange ≡ receivedOf whole
+        pub out-of-range : (calls.validAction here action && every (validGossip here) (map toGossip (take given rows))) ≡ false → refusedReceived n (Refused AddressRange) ≡ receivedOf whole
         out-of-range v =
-            refused-is n AddressRange
+            refused-is n (Refused AddressRange)
             ∙ sym (ap receivedOf (passed ∙ test-fails four [] (calls.refuses s) go (ap (λ (l : List (W.Gossip Addr)). not (calls.validAction here action && every (validGossip here) l)) (lent-few rows given h) ∙ ap not v)))
 
         pub in-range : (calls.validAction here action && every (validGossip here) (map toGossip (take given rows))) ≡ true
-            → receivedOf (calls.kept here s draws (handler.handle here action (map toGossip (take given rows)) (viewNode n) draws)) ≡ receivedOf whole
+            → receivedOf (ruled (map toGossip (take given rows)) (viewNode n)) ≡ receivedOf whole
         in-range v =
             sym
             (ap receivedOf
             (passed
             ∙ test-passes four [] (calls.refuses s) go (ap (λ (l : List (W.Gossip Addr)). not (calls.validAction here action && every (validGossip here) l)) (lent-few rows given h) ∙ ap not v)
-            ∙ ap (λ (l : List (W.Gossip Addr)). calls.kept here s draws (handler.handle here action l (M.loaded s) draws)) (lent-few rows given h)
-            ∙ ap (λ (m : M.Node Addr). calls.kept here s draws (handler.handle here action (map toGossip (take given rows)) m draws)) (loaded-view n)))
+            ∙ ap (λ (l : List (W.Gossip Addr)). ruled l (M.loaded s)) (lent-few rows given h)
+            ∙ ap (λ (m : M.Node Addr). ruled (map toGossip (take given rows)) m) (loaded-view n)))

@@ -9,9 +9,12 @@ use lib.ListN.{length, take, set, replicate}
 use lib.Dec.{leb}
 use Rattle.model.specs.declared.Kind.{Kind}
 use Rattle.model.specs.declared.Refusal.{Refusal}
+use Rattle.model.specs.declared.Refusal.the-variants.{AliveFull}
+use Rattle.model.specs.declared.Cause.{Cause}
+use Rattle.model.specs.declared.Cause.the-variants.{Sender}
 use Rattle.model.specs.declared.Drew.the-variants.{Used, Refused}
 use Rattle.model.specs.Rows.{padTo, every, pick}
-use Rattle.model.specs.Answers.{Answer, done, refused}
+use Rattle.model.specs.Answers.{Answer, done, refused, fullOf}
 use Rattle.address.specs.Here.{Addr, here}
 use Rattle.model.specs.Words as W
 use Rattle.model.specs.Sound.{validGossip}
@@ -65,6 +68,11 @@ abbrev pub findsFull : handler.News Addr → ℕ → ℕ → Bool
 findsFull handler.Silent alive deceased = false
 findsFull (handler.Emits k e) alive deceased = leb 128 (ofKind k alive deceased)
 
+-- the refusal of news that finds its heap full; none that is silent does
+abbrev pub fullFor : handler.News Addr → Refusal
+fullFor handler.Silent = AliveFull
+fullFor (handler.Emits k e) = fullOf k
+
 -- a heap of so many entries has room for what goes to it
 abbrev pub RoomFor : Kind → handler.News Addr → ℕ → Type 0
 RoomFor k handler.Silent held = Unit {0}
@@ -84,16 +92,17 @@ abbrev pub noted : Report → handler.News Addr → Report
 noted r handler.Silent = r
 noted r (handler.Emits k e) = record { events = set (r .events) (r .count) (record { event = fromEvent e }); count = r .count + 1 }
 
--- what was heard of a message: the node, the events to report and the draws used; or a rule was refused
-abbrev pub refusedHeard : Node → Refusal → Heard
-refusedHeard n u = record { node = n; events = replicate 65 noGossip; reported = 0; drew = Refused u }
+-- what was heard of a message: the node, the events to report and the draws used; or a rule was refused, and whose
+abbrev pub refusedHeard : Node → Refusal → Cause → Heard
+refusedHeard n u at = record { node = n; events = replicate 65 noGossip; reported = 0; drew = Refused u; at = at }
 
-abbrev pub heardOf : Node → List ℕ → Answer (M.Out Addr) → Heard
-heardOf n ds (refused u) = refusedHeard n u
-heardOf n ds (done o rest) =
+abbrev pub heardOf : Node → List ℕ → Cause → Answer (M.Out Addr) → Heard
+heardOf n ds at (refused u) = refusedHeard n u at
+heardOf n ds at (done o rest) =
     record {
       node = packNode (o .node);
       events = padTo 65 noGossip (map fromGossip (o .said));
       reported = length (o .said);
       drew = Used (length ds - length rest);
+      at = Sender;
     }

@@ -4,6 +4,7 @@ use disseminate::Disseminator;
 use disseminate::Found;
 use heap::Heap;
 use member::Members;
+use model::Cause;
 use model::Drew;
 use model::Kind;
 use model::Refusal;
@@ -28,7 +29,7 @@ ghost use Rattle.disseminate.specs.Views.{fromFound};
 ghost use Rattle.node.specs.Views.{viewNode};
 ghost use Rattle.node.specs.Rows.{Ready};
 ghost use Rattle.rules.specs.Views.{fromVerdict, toNews};
-ghost use Rattle.message.specs.Views.{recordsOf, Heeded, senderRule, verdictAt, deathFor, findsFull, RoomFor, toldTo, noted, refusedHeard, heardOf};
+ghost use Rattle.message.specs.Views.{recordsOf, Heeded, senderRule, verdictAt, deathFor, findsFull, RoomFor, toldTo, noted, fullFor, refusedHeard, heardOf};
 
 // What a message brings: its records, and the sender if it is to come in.
 pub struct Lent {
@@ -37,12 +38,14 @@ pub struct Lent {
     pub sender: Optional,
 }
 
-// What was heard: the node, the events to report and the draws used. Where a rule was refused, the node as it came and nothing else.
+// What was heard: the node, the events to report and the draws used. Where a rule was refused, the node as it came and whose rule it was.
 pub struct Heard {
     pub node: Node,
     pub events: [Gossip; Heard::EVENTS],
     pub reported: usize,
     pub drew: Drew,
+    // The sender, where no rule was refused.
+    pub at: Cause,
 }
 
 impl Heard {
@@ -163,21 +166,45 @@ fn note(report: Report, news: News) -> Report
 }
 
 // A rule was refused.
-fn refused(node: Node, refusal: Refusal) -> Heard
-    ensures { λ r. ⌜ r ≡ refusedHeard node refusal ⌝ }
+fn refused(node: Node, refusal: Refusal, at: Cause) -> Heard
+    ensures { λ r. ⌜ r ≡ refusedHeard node refusal at ⌝ }
 {
     Heard {
         node,
         events: no_events(),
         reported: 0,
         drew: Drew::Refused(refusal),
+        at,
+    }
+}
+
+// Whose turn it is: a record's, or behind them the sender's.
+fn cause_at(i: usize, given: usize) -> Cause
+    ensures { λ r. ⌜ r ≡ handler.causeAt i given ⌝ }
+{
+    if i < given {
+        return Cause::Record(i);
+    }
+    Cause::Sender
+}
+
+// The refusal of news that finds its heap full: 9 of the alive heap, 13 of the deceased.
+fn full_heap(news: News) -> Refusal
+    ensures { λ r. ⌜ r ≡ fullFor (toNews news) ⌝ }
+{
+    match news {
+        News::Silent => Refusal::AliveFull,
+        News::Emits { kind, event: _ } => match kind {
+            Kind::Alive => Refusal::AliveFull,
+            Kind::Deceased => Refusal::DeceasedFull,
+        },
     }
 }
 
 // The records in their order and then the sender: each is judged, the list changes, and the news is pushed and reported.
 pub fn handle_gossip(node: Node, lent: Lent, draws: &[u64]) -> Heard
     requires { ⌜ Ready node × Heeded (lent .rows) (lent .given) × (calls.validOption here (toOptional (lent .sender)) ≡ true) ⌝ }
-    ensures { λ r. ⌜ r ≡ heardOf node (now (draws .entry)) (M.andMore (handler.gossip here (recordsOf (lent .rows) (lent .given)) (viewNode node) (now (draws .entry))) (senderRule (toOptional (lent .sender)))) ⌝ }
+    ensures { λ r. ⌜ r ≡ heardOf node (now (draws .entry)) (handler.stopsAt here (recordsOf (lent .rows) (lent .given)) (viewNode node) (now (draws .entry))) (M.andMore (handler.gossip here (recordsOf (lent .rows) (lent .given)) (viewNode node) (now (draws .entry))) (senderRule (toOptional (lent .sender)))) ⌝ }
 {
     let mut members = node.members;
     let mut alive = node.disseminator.alive;
@@ -192,12 +219,12 @@ pub fn handle_gossip(node: Node, lent: Lent, draws: &[u64]) -> Heard
         match drew {
             Drew::Used(more) => used += more,
             Drew::Refused(refusal) => {
-                return refused(node, refusal);
+                return refused(node, refusal, cause_at(i, lent.given));
             }
         }
         let news = rules::news_of(verdict, node.own);
         if finds_full(news, alive.len, deceased.len) {
-            return refused(node, Refusal::HeapFull);
+            return refused(node, full_heap(news), cause_at(i, lent.given));
         }
         members = kept.members;
         alive = tell(alive, Kind::Alive, news);
@@ -219,5 +246,6 @@ pub fn handle_gossip(node: Node, lent: Lent, draws: &[u64]) -> Heard
         events,
         reported: report.count,
         drew: Drew::Used(used),
+        at: Cause::Sender,
     }
 }

@@ -55,14 +55,14 @@ fn no_gossip() -> [Gossip; Received::GOSSIP]
 }
 
 // A refusal: the node as it came, nothing sent and nothing reported. Made in one piece, since an answer beside it would be a node more on the stack.
-fn refused(node: Node, refusal: Refusal) -> Received
-    ensures { λ r. ⌜ r ≡ refusedReceived node refusal ⌝ }
+fn refused(node: Node, reply: Reply) -> Received
+    ensures { λ r. ⌜ r ≡ refusedReceived node reply ⌝ }
 {
     let none = Letter::none();
     let letters = [none; Answer::LETTERS];
     Received {
         answer: Answer {
-            reply: Reply::Refused(refusal),
+            reply,
             node,
             letters,
             sent: 0,
@@ -208,12 +208,13 @@ fn handle_ping(
     };
     let heard = gossip::handle_gossip(node, lent, draws);
     let drew = heard.drew;
+    let at = heard.at;
     match drew {
         Drew::Used(used) => {
             let target = ack_target(from, requested_by);
             answer(heard, used, target, Action::new_ack(node.own, requested_by))
         },
-        Drew::Refused(refusal) => refused(node, refusal),
+        Drew::Refused(refusal) => refused(node, Reply::RefusedAt(refusal, at)),
     }
 }
 
@@ -236,12 +237,13 @@ fn handle_ping_req(
     };
     let heard = gossip::handle_gossip(node, lent, draws);
     let drew = heard.drew;
+    let at = heard.at;
     match drew {
         Drew::Used(used) => {
             let ping = Action::new_ping(node.own, Optional::Given(from));
             answer(heard, used, suspect, ping)
         },
-        Drew::Refused(refusal) => refused(node, refusal),
+        Drew::Refused(refusal) => refused(node, Reply::RefusedAt(refusal, at)),
     }
 }
 
@@ -282,9 +284,10 @@ fn handle_ack(
     };
     let heard = gossip::handle_gossip(node, lent, draws);
     let drew = heard.drew;
+    let at = heard.at;
     match drew {
         Drew::Used(used) => acknowledge(heard, used, from, forward_to, rows, given),
-        Drew::Refused(refusal) => refused(node, refusal),
+        Drew::Refused(refusal) => refused(node, Reply::RefusedAt(refusal, at)),
     }
 }
 
@@ -330,22 +333,22 @@ pub fn receive(
     node::tests::has_rows(node);
     has_places(rows);
     if !node::tests::sound(node) {
-        return refused(node, Refusal::Unsound);
+        return refused(node, Reply::Refused(Refusal::Unsound));
     }
     if gossip_room < Received::GOSSIP {
-        return refused(node, Refusal::ShortRow);
+        return refused(node, Reply::Refused(Refusal::ShortRow));
     }
     if event_room < Heard::EVENTS {
-        return refused(node, Refusal::ShortRow);
+        return refused(node, Reply::Refused(Refusal::ShortRow));
     }
     if Received::GOSSIP < given {
-        return refused(node, Refusal::ManyRecords);
+        return refused(node, Reply::Refused(Refusal::ManyRecords));
     }
     if !ranges::valid_action(action) {
-        return refused(node, Refusal::AddressRange);
+        return refused(node, Reply::Refused(Refusal::AddressRange));
     }
     if !ranges::valid_rows(rows, given) {
-        return refused(node, Refusal::AddressRange);
+        return refused(node, Reply::Refused(Refusal::AddressRange));
     }
     dispatch_action(node, action, rows, given, draws)
 }

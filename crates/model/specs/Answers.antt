@@ -3,10 +3,12 @@
 use mathlib.Core.Bool.{Bool, true, false}
 use mathlib.Core.List.{List, [], _∷_}
 use Prim.Native.Nat.{ℕ}
+use Rattle.model.specs.declared.Kind.{Kind}
+use Rattle.model.specs.declared.Kind.the-variants as kind
 use Rattle.model.specs.declared.Refusal.{Refusal}
-use Rattle.model.specs.declared.Refusal.the-variants.{Setting, Unsound, ShortRow, ManyRecords, AddressRange, NumberEnd, ListFull, DrawsShort, HeapFull, TimersFull, Malformed, NoRoom}
+use Rattle.model.specs.declared.Refusal.the-variants.{Setting, Unsound, ShortRow, ManyRecords, AddressRange, NumberEnd, ListFull, DrawsShort, AliveFull, TimersFull, Malformed, NoRoom, DeceasedFull}
 
--- the table: the number of each refusal. A node's calls give 1 to 10; 11 and 12 are of bytes that are no datagram, and of bytes that the lent row has no room for
+-- the table: the number of each refusal. A node's calls give 1 to 10 and 13; 11 and 12 are of bytes that are no datagram, and of bytes that the lent row has no room for
 abbrev pub numberOf : Refusal → ℕ
 numberOf Setting = 1
 numberOf Unsound = 2
@@ -16,10 +18,16 @@ numberOf AddressRange = 5
 numberOf NumberEnd = 6
 numberOf ListFull = 7
 numberOf DrawsShort = 8
-numberOf HeapFull = 9
+numberOf AliveFull = 9
 numberOf TimersFull = 10
 numberOf Malformed = 11
 numberOf NoRoom = 12
+numberOf DeceasedFull = 13
+
+-- "Refusals: 9 alive heap full, 13 deceased heap full"
+abbrev pub fullOf : Kind → Refusal
+fullOf kind.Alive = AliveFull
+fullOf kind.Deceased = DeceasedFull
 
 -- a rule's answer: a refusal, or what it gives and the draws that are left
 pub data Answer (B : Type 0) : Type 0 where

@@ -8,8 +8,9 @@ use lib.ListN.{length, drop}
 use lib.Dec.{ltb}
 use Rattle.model.specs.declared.Refusal.{Refusal}
 use Rattle.model.specs.declared.Refusal.the-variants.{Setting, Unsound, ShortRow, ManyRecords, AddressRange}
+use Rattle.model.specs.declared.Cause.{Cause}
 use Rattle.model.specs.declared.Reply.{Reply}
-use Rattle.model.specs.declared.Reply.the-variants.{Done, Already, NotDue, Refused}
+use Rattle.model.specs.declared.Reply.the-variants.{Done, Already, NotDue, Refused, RefusedAt}
 use Rattle.model.specs.declared.Settings.{Settings}
 use Rattle.model.specs.Rows.{every}
 use Rattle.model.specs.Bounds.{message-records, Room, message-room, step-room, timer-room}
@@ -17,7 +18,7 @@ use Rattle.model.specs.Answers.{Answer, done, refused, andThen, numberOf
 use Rattle.model.specs.Words.{Address, Gossip, Action, Ping, PingReq, Ack, Message, Wait, WaitState, SendingPing, WaitingForPingAck, SendingPingReq, WaitingForPingReqAck, Declaring}
 use Rattle.model.specs.Members as list
 use Rattle.model.specs.Node.{Node, Out, Effect, Stored, loaded, stored, fresh, withMembers, lists}
-use Rattle.model.specs.Handler.{handle}
+use Rattle.model.specs.Handler.{handle, stopsAt}
 use Rattle.model.specs.Detector.{due, step, Stepped, firstOver, endAt}
 use Rattle.model.specs.Sound.{inRange, sound, validGossip}
 
@@ -45,12 +46,29 @@ replyNumber (Done used) = 0
 replyNumber Already = 0
 replyNumber NotDue = 0
 replyNumber (Refused r) = numberOf r
+replyNumber (RefusedAt r at) = numberOf r
 
 abbrev pub drawsUsed : Reply → ℕ
 drawsUsed (Done used) = used
 drawsUsed Already = 0
 drawsUsed NotDue = 0
 drawsUsed (Refused r) = 0
+drawsUsed (RefusedAt r at) = 0
+
+-- the refusal of a reply, if it is one, and where the rules of a message stopped
+abbrev pub refusalOf : Reply → Option Refusal
+refusalOf (Done used) = none
+refusalOf Already = none
+refusalOf NotDue = none
+refusalOf (Refused r) = some r
+refusalOf (RefusedAt r at) = some r
+
+abbrev pub causeOf : Reply → Option Cause
+causeOf (Done used) = none
+causeOf Already = none
+causeOf NotDue = none
+causeOf (Refused r) = none
+causeOf (RefusedAt r at) = some at
 
 -- the first test that fails gives the refusal
 abbrev pub firstOf : {B : Type 0} → List (Bool × Refusal) → (Refusal → B) → B → B
@@ -155,9 +173,14 @@ module _ {A : Type 0} (address : Address A) where
       ∷ (not (validAction action && every (validGossip address) gs), AddressRange)
       ∷ []
 
+  -- a message that its rules stop tells where
+  abbrev pub keptMessage : Stored A → Cause → List ℕ → Answer (Effect A) → Outcome A
+  keptMessage s at ds (refused r) = unchanged (RefusedAt r at) s
+  keptMessage s at ds (done e rest) = kept s ds (done e rest)
+
   unfoldable pub message : Stored A → Action A → List (Gossip A) → List ℕ → Room → Outcome A
   message s action gs ds lent =
-      firstOf (messageTests s action gs lent) (refuses s) (kept s ds (handle address action gs (loaded s) ds))
+      firstOf (messageTests s action gs lent) (refuses s) (keptMessage s (stopsAt address gs (loaded s) ds) ds (handle address action gs (loaded s) ds))
 
   abbrev pub keptStep : Stored A → Wait A → List ℕ → Answer (Stepped A) → StepOutcome A
   keptStep s w ds (refused r) = record { outcome = refuses s r; wait = w }

@@ -3,13 +3,16 @@
 use mathlib.Core.Bool.{Bool, _&&_, not}
 use mathlib.Core.List.{List, [], _∷_}
 use mathlib.Core.Option.{Option, none, some}
-use Prim.Native.Nat.{ℕ, max}
+use Prim.Native.Nat.{ℕ, suc, max}
+use lib.ListN.{length}
 use lib.Dec.{eqb, ltb, leb}
 use Rattle.model.specs.declared.State.{State}
 use Rattle.model.specs.declared.State.the-variants as state
 use Rattle.model.specs.declared.Kind.{Kind}
 use Rattle.model.specs.declared.Kind.the-variants as kind
 use Rattle.model.specs.declared.Refusal.the-variants.{NumberEnd}
+use Rattle.model.specs.declared.Cause.{Cause}
+use Rattle.model.specs.declared.Cause.the-variants.{Record, Sender}
 use Rattle.model.specs.Rows.{pick}
 use Rattle.model.specs.Answers.{Answer, done, refused, andThen}
 use Rattle.model.specs.Words.{Address, isAlive, Member, Event, Nothing, Joined, Recovered, Suspected, Deceased, Gossip, Action, Ping, PingReq, Ack, partsOf}
@@ -36,6 +39,10 @@ believed st held n = pick (isAlive st) (leb held n) (ltb held n)
 abbrev pub orEnd : {A : Type 0} → Option ℕ → (ℕ → Verdict A) → Verdict A
 orEnd none k = AtEnd
 orEnd (some n) k = k n
+
+-- "the number of the gossip record that caused it, counted from 0, or .. that it was the sender's own admission": the rules got through k of n records
+unfoldable pub causeAt : ℕ → ℕ → Cause
+causeAt k n = pick (ltb k n) (Record k) Sender
 
 module _ {A : Type 0} (address : Address A) where
   -- "Joined: number = max(D + 1 or 0, joined). Listed: if greater, raise it and keep the state; else nothing. Absent: add."
@@ -115,12 +122,12 @@ module _ {A : Type 0} (address : Address A) where
   newsOf (Suspect a n) own = Emits kind.Alive (Suspected own a n)
   newsOf (Bury a n) own = Emits kind.Deceased (Deceased own a n)
 
-  -- refusal 9
+  -- refusals 9 and 13
   abbrev pub tell : News A → Node A → List ℕ → Answer (Out A)
   tell Silent s ds = quiet s ds
   tell (Emits k e) s ds = emit address k (record { event = e }) s ds
 
-  -- a verdict is carried out: "Within one gossip item or ping admission: 6, 7, 8, 9."
+  -- a verdict is carried out: "Within one gossip item or ping admission: 6, 7, 8, 9", and 13 in 9's place
   unfoldable pub act : Verdict A → Node A → List ℕ → Answer (Out A)
   act v s ds = andThen (listAfter v (s .members) ds) λ m rest. tell (newsOf v (s .own)) (withMembers s m) rest
 
@@ -132,6 +139,18 @@ module _ {A : Type 0} (address : Address A) where
   abbrev pub gossip : List (Gossip A) → Node A → List ℕ → Answer (Out A)
   gossip [] s ds = quiet s ds
   gossip (g ∷ gs) s ds = andMore (item (g .event) s ds) (gossip gs)
+
+  -- how many of the records the rules get through
+  abbrev pub countOn : Answer (Out A) → (Node A → List ℕ → ℕ) → ℕ
+  countOn (refused r) k = 0
+  countOn (done o rest) k = suc (k (o .node) rest)
+
+  abbrev pub through : List (Gossip A) → Node A → List ℕ → ℕ
+  through [] s ds = 0
+  through (g ∷ gs) s ds = countOn (item (g .event) s ds) (through gs)
+
+  unfoldable pub stopsAt : List (Gossip A) → Node A → List ℕ → Cause
+  stopsAt gs s ds = causeAt (through gs s ds) (length gs)
 
   -- "then an unlisted sender is added with D + 1 or 0, emitting Joined"
   unfoldable pub admit : A → Node A → List ℕ → Answer (Out A)

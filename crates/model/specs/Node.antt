@@ -11,10 +11,9 @@ use Rattle.model.specs.declared.State.the-variants.{Alive}
 use Rattle.model.specs.declared.Settings.{Settings}
 use Rattle.model.specs.declared.Kind.{Kind}
 use Rattle.model.specs.declared.Kind.the-variants as kind
-use Rattle.model.specs.declared.Refusal.the-variants.{HeapFull}
 use Rattle.model.specs.Rows.{pick, padTo}
 use Rattle.model.specs.Bounds.{list-places, heap-places, timer-places, last-number}
-use Rattle.model.specs.Answers.{Answer, done, refused, andThen, when}
+use Rattle.model.specs.Answers.{Answer, done, refused, andThen, when, fullOf}
 use Rattle.model.specs.Words.{Address, Gossip, Entry, unused, sendsOf, Timer, Member, Message, noMember, noTimer}
 use Rattle.model.specs.Limit.{limitOf}
 use Rattle.model.specs.Heap.{push}
@@ -85,11 +84,11 @@ module _ {A : Type 0} where
   andMore x k = andThen x λ o rest. andThen (k (o .node) rest) λ p rest₂. done (record { node = p .node; said = o .said ++ p .said }) rest₂
 
 module _ {A : Type 0} (address : Address A) where
-  -- "an event is to be pushed to a full heap": refusal 9; else the disseminator with it
+  -- "an event is to be pushed to a full heap": refusal 9 or 13; else the disseminator with it
   unfoldable pub pushed : Kind → Gossip A → Disseminator A → List ℕ → Answer (Disseminator A)
   pushed k g d ds =
       when (leb heap-places (length (heapOf k d)))
-      (refused HeapFull)
+      (refused (fullOf k))
       (done (withHeap k (push unused sendsOf (heapOf k d) (entryOf address g)) d) ds)
 
   -- "an emitted event is pushed to its heap, then reported"

@@ -26,18 +26,27 @@ pub enum Refusal {
     NumberEnd,
     ListFull,
     DrawsShort,
-    HeapFull,
+    AliveFull,
     TimersFull,
     Malformed,
     NoRoom,
+    DeceasedFull,
 }
 
-// How a call ended: kept, with how many draws it used; kept with nothing to do; or refused.
+// Where the rules of a message stopped: at a gossip record, counted from 0 in the lent row, or at the sender's own admission.
+pub enum Cause {
+    Record(usize),
+    Sender,
+}
+
+// How a call ended: kept, with how many draws it used; kept with nothing to do; refused; or, of a message alone, refused by its
+// rules, and where.
 pub enum Reply {
     Done(usize),
     Already,
     NotDue,
     Refused(Refusal),
+    RefusedAt(Refusal, Cause),
 }
 
 // How a rule that reads draws ended: how many it used, or why it was refused.
@@ -88,10 +97,11 @@ pub fn refusal_number(refusal: Refusal) -> u8
         Refusal::NumberEnd => 6,
         Refusal::ListFull => 7,
         Refusal::DrawsShort => 8,
-        Refusal::HeapFull => 9,
+        Refusal::AliveFull => 9,
         Refusal::TimersFull => 10,
         Refusal::Malformed => 11,
         Refusal::NoRoom => 12,
+        Refusal::DeceasedFull => 13,
     }
 }
 

@@ -8,9 +8,8 @@ use native.Mathlib.Omega.{arith}
 use lib.ListN.{length}
 use lib.Dec.{leb}
 use Rattle.model.specs.declared.Kind.{Kind}
-use Rattle.model.specs.declared.Refusal.the-variants.{HeapFull}
 use Rattle.model.specs.Rows.{one}
-use Rattle.model.specs.Answers.{Answer, done, refused, andThen, when}
+use Rattle.model.specs.Answers.{Answer, done, refused, andThen, when, fullOf}
 use Rattle.address.specs.Here.{Addr, here}
 use Rattle.model.specs.Words as W
 use Rattle.model.specs.Heap.{push}
@@ -38,7 +37,7 @@ module _ (k : Kind) (g : W.Gossip Addr) {s : M.Node Addr} {n : Node} {p : Pushed
   more = M.withHeap k (push W.unused W.sendsOf (M.heapOf k (s .disseminator)) (entryOf here g)) (s .disseminator)
 
   abbrev push-or : Bool → List ℕ → Answer (M.Disseminator Addr)
-  push-or u rest = when u (refused HeapFull) (done more rest)
+  push-or u rest = when u (refused (fullOf k)) (done more rest)
 
   abbrev emit-or : Bool → Answer (M.Out Addr)
   emit-or u = andThen (push-or u ds) λ d rest. done (record { node = M.withDisseminator s d; said = g ∷ [] }) rest
@@ -47,10 +46,10 @@ module _ (k : Kind) (g : W.Gossip Addr) {s : M.Node Addr} {n : Node} {p : Pushed
   unfolding viewNode M.pushed
   pushed-is = f ∙ ap (λ (x : M.Node Addr). heldOr (n .disseminator) (M.pushed here k g (x .disseminator) [])) seen
 
-  pub emit-full : p .full ≡ true → M.emit here k g s ds ≡ refused HeapFull
+  pub emit-full : p .full ≡ true → M.emit here k g s ds ≡ refused (fullOf k)
   unfolding M.emit M.pushed when
   emit-full q =
-      (elim (leb 128 (length (M.heapOf k (s .disseminator)))) as (λ u. p ≡ heldOr (n .disseminator) (push-or u []) → emit-or u ≡ refused HeapFull) [
+      (elim (leb 128 (length (M.heapOf k (s .disseminator)))) as (λ u. p ≡ heldOr (n .disseminator) (push-or u []) → emit-or u ≡ refused (fullOf k)) [
         | true ↦ λ z. refl
         | false ↦ λ z. let y : _≡_ {A = Bool} true false = sym q ∙ ap (λ (x : Pushed). x .full) z in cc
       ]) pushed-is

@@ -10,7 +10,7 @@ use lib.ListN.{length, take}
 use Rattle.model.specs.declared.State.the-variants as state
 use Rattle.model.specs.declared.Kind.the-variants as kind
 use Rattle.model.specs.declared.Refusal.{Refusal}
-use Rattle.model.specs.declared.Refusal.the-variants.{HeapFull}
+use Rattle.model.specs.declared.Refusal.the-variants.{AliveFull}
 use Rattle.model.specs.declared.Reply.the-variants.{Refused}
 use Rattle.model.specs.Answers as A
 use Rattle.address.specs.Here.{Addr, here, here-lawful}
@@ -87,10 +87,10 @@ module _ (q : Request) where
   unfolding D.suspect viewNode
   suspects = ap (λ (x : Event). M.emit here kind.Alive (record { event = toEvent x }) changed (q .draws)) (sym (q .named))
 
-  pub request-full : q .pushed .full ≡ true → plainStep (Refused HeapFull) (q .node) (q .wait) ≡ requested
+  pub request-full : q .pushed .full ≡ true → plainStep (Refused AliveFull) (q .node) (q .wait) ≡ requested
   unfolding D.sendPingReq
   request-full h =
-      plain-step (Refused HeapFull) (q .node) (q .wait)
+      plain-step (Refused AliveFull) (q .node) (q .wait)
       ∙ sym (ap (λ (x : A.Answer (M.Out Addr)). outcome (then-ask x)) (suspects ∙ emit-full kind.Alive (toGossip (q .gossip)) (q .draws) changed-good changed-is (q .pushed-is) h))
 
   module _ (h : q .pushed .full ≡ false) where

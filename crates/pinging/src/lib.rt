@@ -183,7 +183,7 @@ pub fn send_ping_req(
     };
     let pushed = disseminate::grow(node.disseminator.alive, suspected);
     if pushed.full {
-        return Stepped::plain(Reply::Refused(Refusal::HeapFull), node, wait);
+        return Stepped::plain(Reply::Refused(Refusal::AliveFull), node, wait);
     }
     let settings = node.settings;
     let wanted = settings.ping_req_group_size;

@@ -11,22 +11,23 @@ use lib.ListN.{length}
 use lib.Dec.{eqb, ltb}
 use borrow.Author.Tests.{ltb-true, ltb-false}
 use Rattle.model.specs.declared.Refusal.{Refusal}
+use Rattle.model.specs.declared.Cause.{Cause}
 use Rattle.model.specs.declared.Reply.{Reply}
-use Rattle.model.specs.declared.Reply.the-variants.{Done, Already, NotDue, Refused}
+use Rattle.model.specs.declared.Reply.the-variants.{Done, Already, NotDue, Refused, RefusedAt}
 use Rattle.model.specs.Bounds.{Room}
 use Rattle.model.specs.Rows.{has}
 use Rattle.model.specs.Answers.{Answer, done, refused, numberOf}
 use Rattle.model.specs.Words.{Address, Gossip, Action, Wait, Timer}
-use Rattle.model.specs.Node.{Stored, loaded, lists}
-use Rattle.model.specs.Handler.{handle}
+use Rattle.model.specs.Node.{Stored, Effect, loaded, lists}
+use Rattle.model.specs.Handler.{handle, stopsAt}
 use Rattle.model.specs.Detector as D
 use Rattle.model.specs.Calls as calls
 use Rattle.model.specs.Calls.{replyNumber, firstOf}
-use Rattle.promises.specs.Replies.{NotDone, already-apart, not-due-apart, same-number, not-zero}
+use Rattle.promises.specs.Replies.{NotDone, cause-apart, already-apart, not-due-apart, same-number, not-zero}
 use Rattle.promises.specs.Firsts.{FirstFails, Among, Passed, first-among, all-among, among-also, exactly, after-tests, by-tests, first-cases}
 use Rattle.promises.specs.Stops.{addStops, stepStops, endStops, MessageStops, noneOver}
 use Rattle.promises.specs.Stopping.{joins-refuses, step-refuses, end-refuses, step-among}
-use Rattle.promises.specs.Records.{message-among, handle-exactly}
+use Rattle.promises.specs.Records.{message-among, handle-exactly, Told}
 
 -- What a call gives. `idly` is what it gives, by its reply, where it changes nothing; `y` is its word for nothing to do, and P when; S says of each of 6 to 10 what stops the rules
 pub record Tabled {B : Type 0} (replyOf : B → Reply) (idly : Reply → B) (y : Reply) (ts : List (Bool × Refusal)) (P : Type 0) (S : Refusal → Type 0) (given : B) : Type 0 where
@@ -44,15 +45,19 @@ pub numbers : {B : Type 0} {replyOf : B → Reply} {idly : Reply → B} {y : Rep
     → (ns : List ℕ) → OneOf ns 0 → Among (λ r. OneOf ns (numberOf r)) ts → ((x : Refusal) → S x → OneOf ns (numberOf x)) → OneOf ns (replyNumber (replyOf given))
 numbers {replyOf = replyOf} {given = given} t ns zero tests stops = by-reply (replyOf given) refl
   where
+    by-number : (x : Refusal) → replyNumber (replyOf given) ≡ numberOf x → OneOf ns (numberOf x)
+    by-number x e =
+        (elim (ltb (numberOf x) 6) as (λ u. ltb (numberOf x) 6 ≡ u → OneOf ns (numberOf x)) [
+          | true ↦ λ p. first-among (λ r. OneOf ns (numberOf r)) (t .tests x (ltb-true _ _ p) .0 e) tests
+          | false ↦ λ p. stops x (t .stops x (ltb-false _ _ p) .0 e .1)
+        ]) refl
+
     by-reply : (y : Reply) → replyOf given ≡ y → OneOf ns (replyNumber y)
     by-reply (Done used) e = zero
     by-reply Already e = zero
     by-reply NotDue e = zero
-    by-reply (Refused x) e =
-        (elim (ltb (numberOf x) 6) as (λ u. ltb (numberOf x) 6 ≡ u → OneOf ns (numberOf x)) [
-          | true ↦ λ p. first-among (λ r. OneOf ns (numberOf r)) (t .tests x (ltb-true _ _ p) .0 (ap replyNumber e)) tests
-          | false ↦ λ p. stops x (t .stops x (ltb-false _ _ p) .0 (ap replyNumber e) .1)
-        ]) refl
+    by-reply (Refused x) e = by-number x (ap replyNumber e)
+    by-reply (RefusedAt x at) e = by-number x (ap replyNumber e)
 
 -- the words for nothing to do
 data Idle : Reply → Type 0 where
@@ -76,7 +81,9 @@ module _ {B : Type 0} (replyOf : B → Reply) (idly : Reply → B) where
   record Tells {C : Type 0} (outcome : Answer C → B) : Type 0 where
     used : List ℕ → ℕ
     gives : (c : C) (rest : List ℕ) → replyOf (outcome (done c rest)) ≡ Done (used rest)
-    refuses : (r : Refusal) → outcome (refused r) ≡ idly (Refused r)
+    refusing : Refusal → Reply
+    numbered : (r : Refusal) → replyNumber (refusing r) ≡ numberOf r
+    refuses : (r : Refusal) → outcome (refused r) ≡ idly (refusing r)
 
   -- what comes after the tests
   record Goes (y : Reply) (P : Type 0) (S : Refusal → Type 0) (go : B) : Type 0 where
@@ -103,17 +110,20 @@ module _ {B : Type 0} (replyOf : B → Reply) (idly : Reply → B) (says : (z : 
         keeps = keeps a;
       }
     where
-      reply : (r : Refusal) → replyOf (outcome (refused r)) ≡ Refused r
-      reply r = ap replyOf (t .refuses r) ∙ says (Refused r)
+      reply : (r : Refusal) → replyOf (outcome (refused r)) ≡ t .refusing r
+      reply r = ap replyOf (t .refuses r) ∙ says (t .refusing r)
+
+      number : (r : Refusal) → replyNumber (replyOf (outcome (refused r))) ≡ numberOf r
+      number r = ap replyNumber (reply r) ∙ t .numbered r
 
       never : (a : Answer C) → replyOf (outcome a) ≡ y → ⊥
-      never (refused r) e = idle-no-refusal word r (sym (reply r) ∙ e)
+      never (refused r) e = not-zero r (sym (ap replyNumber e ∙ idle-number word) ∙ number r)
       never (done c rest) e = idle-not-done word (t .used rest) (sym (t .gives c rest) ∙ e)
 
       told : (x : Refusal) (a : Answer C) → (replyNumber (replyOf (outcome a)) ≡ numberOf x) ↔ (a ≡ refused x)
       told x (refused r) = (
-        (λ e. ap refused (same-number r x (sym (ap replyNumber (reply r)) ∙ e))),
-        (λ e. let z : r ≡ x = cc in ap replyNumber (reply r) ∙ ap numberOf z),
+        (λ e. ap refused (same-number r x (sym (number r) ∙ e))),
+        (λ e. let z : r ≡ x = cc in number r ∙ ap numberOf z),
       )
       told x (done c rest) = (
         (λ e. absurd (not-zero x (sym (ap replyNumber (t .gives c rest)) ∙ e))),
@@ -182,10 +192,13 @@ module _ {A : Type 0} (address : Address A) (s : Stored A) where
   stepIdly w z = record { outcome = calls.unchanged z s; wait = w }
 
   kept-tells : (ds : List ℕ) → Tells replyOf idly (calls.kept address s ds)
-  kept-tells ds = record { used = λ rest. length ds - length rest; gives = λ e rest. refl; refuses = λ r. refl }
+  kept-tells ds = record { used = λ rest. length ds - length rest; gives = λ e rest. refl; refusing = Refused; numbered = λ r. refl; refuses = λ r. refl }
+
+  message-tells : (at : Cause) (ds : List ℕ) → Tells replyOf idly (calls.keptMessage address s at ds)
+  message-tells at ds = record { used = λ rest. length ds - length rest; gives = λ e rest. refl; refusing = λ r. RefusedAt r at; numbered = λ r. refl; refuses = λ r. refl }
 
   kept-step-tells : (w : Wait A) (ds : List ℕ) → Tells stepReply (stepIdly w) (calls.keptStep address s w ds)
-  kept-step-tells w ds = record { used = λ rest. length ds - length rest; gives = λ e rest. refl; refuses = λ r. refl }
+  kept-step-tells w ds = record { used = λ rest. length ds - length rest; gives = λ e rest. refl; refusing = Refused; numbered = λ r. refl; refuses = λ r. refl }
 
   -- adding a peer: it is listed, or what stops an add
   pub add-table : (a : A) (n : ℕ) (ds : List ℕ)
@@ -206,8 +219,28 @@ module _ {A : Type 0} (address : Address A) (s : Stored A) where
       → Tabled replyOf idly NotDue (calls.messageTests address s action gs lent) ⊥ (λ x. MessageStops address gs (loaded s) ds x action) (calls.message address s action gs ds lent)
   unfolding calls.message
   message-table action gs ds lent =
-      tabled replyOf idly (λ z. refl) not-due (calls.messageTests address s action gs lent) (omega arith) (λ x h. message-among (λ r. 6 ≤ numberOf r) (omega arith) (omega arith) (omega arith) (omega arith) h)
-      (asks replyOf idly (λ z. refl) not-due (kept-tells ds) (λ e. e) (handle address action gs (loaded s) ds) (λ x. handle-exactly address x action gs (loaded s) ds))
+      tabled replyOf idly (λ z. refl) not-due (calls.messageTests address s action gs lent) (omega arith) (λ x h. message-among (λ r. 6 ≤ numberOf r) (omega arith) (omega arith) (omega arith) (omega arith) (omega arith) h)
+      (asks replyOf idly (λ z. refl) not-due (message-tells _ ds) (λ e. e) (handle address action gs (loaded s) ds) (λ x. handle-exactly address x action gs (loaded s) ds))
+
+  -- where its rules stopped
+  kept-cause : (told at : Cause) (ds : List ℕ) (x : Refusal) (y : Answer (Effect A)) → (calls.keptMessage address s told ds y .reply ≡ RefusedAt x at) ↔ ((y ≡ refused x) × (told ≡ at))
+  kept-cause told at ds x (refused r) = (
+    (λ e. let z : r ≡ x = cc in (ap refused z, cc)),
+    (λ h. let e = h .0 in let z : r ≡ x = cc in λ i. RefusedAt (z i) (h .1 i)),
+  )
+  kept-cause told at ds x (done e rest) = (
+    (λ p. let z : _≡_ {A = ℕ} 0 1 = cc in absurd (omega arith)),
+    (λ h. let p = h .0 in let z : _≡_ {A = ℕ} 0 1 = cc in absurd (omega arith)),
+  )
+
+  pub message-cause : (action : Action A) (gs : List (Gossip A)) (ds : List ℕ) (lent : Room) (x : Refusal) (at : Cause)
+      → (calls.message address s action gs ds lent .reply ≡ RefusedAt x at) ↔ (Passed (calls.messageTests address s action gs lent) × Told address x action gs (loaded s) ds at)
+  unfolding calls.message
+  message-cause action gs ds lent x at =
+      let apart : (r : Refusal) → Refused r ≡ RefusedAt x at → ⊥ = λ r e. cause-apart e in
+      let after = after-tests replyOf Refused (calls.refuses s) (λ r. refl) _ (RefusedAt x at) (calls.messageTests address s action gs lent) (all-among apart (calls.messageTests address s action gs lent)) in
+      let at-rules = kept-cause (stopsAt address gs (loaded s) ds) at ds x (handle address action gs (loaded s) ds) in
+      ((λ e. (after .0 e .0, at-rules .0 (after .0 e .1))), (λ h. after .1 (h .0, at-rules .1 (h .1))))
 
   -- the detector step: it isn't due, or what stops a step of that state
   pub step-table : (w : Wait A) (now : ℕ) (ds : List ℕ) (lent : Room)
@@ -237,3 +270,40 @@ module _ {A : Type 0} (address : Address A) (s : Stored A) where
       ended : (o : Option ℕ) {u : Bool} → noPlace o ≡ u → Goes replyOf idly NotDue (u ≡ true) (λ x. (u ≡ false) × FirstFails x (endStops (loaded s))) (calls.endsAt address s o)
       ended none e = rests replyOf idly (λ z. refl) not-due (sym e) (λ x h. unlike (e ∙ h .0))
       ended (some i) e = asks replyOf idly (λ z. refl) not-due (kept-tells []) (λ f. unlike (sym (e ∙ f))) (calls.reports address (D.endAt address i (loaded s) [])) (λ x. lets (sym e) (exactly x (end-refuses address i (loaded s) [])))
+
+  -- "A detector, timer or add refusal has no record number."
+  kept-causeless : (ds : List ℕ) (x : Answer (Effect A)) → calls.causeOf (calls.kept address s ds x .reply) ≡ none
+  kept-causeless ds (refused r) = refl
+  kept-causeless ds (done e rest) = refl
+
+  step-causeless : (w : Wait A) (ds : List ℕ) (x : Answer (D.Stepped A)) → calls.causeOf (calls.keptStep address s w ds x .outcome .reply) ≡ none
+  step-causeless w ds (refused r) = refl
+  step-causeless w ds (done e rest) = refl
+
+  pub add-no-cause : (a : A) (n : ℕ) (ds : List ℕ) → calls.causeOf (calls.addPeer address s a n ds .reply) ≡ none
+  unfolding calls.addPeer
+  add-no-cause a n ds =
+      first-cases (λ (o : calls.Outcome A). calls.causeOf (o .reply) ≡ none) (calls.addTests address s a) (calls.refuses s) _ (λ r. refl)
+      (λ p. elim (lists address a (loaded s)) as (λ u. calls.causeOf (calls.orAlready u s (calls.kept address s ds (calls.joins address a n (loaded s) ds)) .reply) ≡ none) [
+        | true ↦ refl
+        | false ↦ kept-causeless ds (calls.joins address a n (loaded s) ds)
+      ])
+
+  pub step-no-cause : (w : Wait A) (now : ℕ) (ds : List ℕ) (lent : Room) → calls.causeOf (calls.detect address s w now ds lent .outcome .reply) ≡ none
+  unfolding calls.detect
+  step-no-cause w now ds lent =
+      first-cases (λ (o : calls.StepOutcome A). calls.causeOf (o .outcome .reply) ≡ none) (calls.stepTests address s w lent) (λ r. record { outcome = calls.refuses s r; wait = w }) _ (λ r. refl)
+      (λ p. elim (D.due (s .settings) w now) as (λ u. calls.causeOf (calls.whenDue u s w (calls.keptStep address s w ds (D.step address (w .state) now (loaded s) ds)) .outcome .reply) ≡ none) [
+        | true ↦ step-causeless w ds (D.step address (w .state) now (loaded s) ds)
+        | false ↦ refl
+      ])
+
+  ends-causeless : (o : Option ℕ) → calls.causeOf (calls.endsAt address s o .reply) ≡ none
+  ends-causeless none = refl
+  ends-causeless (some i) = kept-causeless [] (calls.reports address (D.endAt address i (loaded s) []))
+
+  pub timer-no-cause : (now : ℕ) (lent : Room) → calls.causeOf (calls.endTimer address s now lent .reply) ≡ none
+  unfolding calls.endTimer
+  timer-no-cause now lent =
+      first-cases (λ (o : calls.Outcome A). calls.causeOf (o .reply) ≡ none) (calls.timerTests address s lent) (calls.refuses s) _ (λ r. refl)
+      (λ p. ends-causeless (D.firstOver address (s .settings .«suspect_timeout») now (loaded s .timers)))

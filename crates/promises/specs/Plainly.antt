@@ -9,7 +9,7 @@ use native.Mathlib.Omega.{arith}
 use lib.ListN.{length}
 use borrow.Author.Tests.{leb-true, leb-false, ltb-true, le-leb, lt-leb, lt-ltb}
 use Rattle.model.specs.declared.Refusal.{Refusal}
-use Rattle.model.specs.declared.Refusal.the-variants.{ListFull, DrawsShort, HeapFull, TimersFull}
+use Rattle.model.specs.declared.Refusal.the-variants.{ListFull, DrawsShort, AliveFull, TimersFull, DeceasedFull}
 use Rattle.model.specs.Rows.{isEmpty}
 use Rattle.model.specs.Bounds.{list-places, heap-places}
 use Rattle.model.specs.Answers.{numberOf}
@@ -42,10 +42,10 @@ module _ {A : Type 0} (s : Node A) (ds : List ℕ) where
       only-if (passes p (fails p′ q)) = (leb-false _ _ p, empty-is ds p′)
 
 -- an ended timer
-pub end-full : {A : Type 0} (s : Node A) → FirstFails HeapFull (endStops s) ↔ (heap-places ≤ length (s .disseminator .deceased))
+pub end-full : {A : Type 0} (s : Node A) → FirstFails DeceasedFull (endStops s) ↔ (heap-places ≤ length (s .disseminator .deceased))
 end-full s = (only-if, (λ h. fails (le-leb _ _ h) refl))
   where
-    only-if : FirstFails HeapFull (endStops s) → heap-places ≤ length (s .disseminator .deceased)
+    only-if : FirstFails DeceasedFull (endStops s) → heap-places ≤ length (s .disseminator .deceased)
     only-if (fails p q) = leb-true _ _ p
 
 -- a step that is due, by the state of the wait record
@@ -59,10 +59,10 @@ module _ {A : Type 0} (address : Address A) (s : Node A) (ds : List ℕ) where
       only-if (SendingPingReq a n) (passes p (fails p′ q)) = other q (omega arith)
       only-if (Declaring a n) (fails p q) = (a, n, refl, leb-true _ _ p)
 
-  pub step-heap-full : (st : WaitState A) → FirstFails HeapFull (stepStops address st s ds) ↔ StepHeapFull st s
+  pub step-heap-full : (st : WaitState A) → FirstFails AliveFull (stepStops address st s ds) ↔ StepHeapFull st s
   step-heap-full st = (only-if st, (λ h. rw (h .2) (fails (le-leb _ _ (h .3)) refl)))
     where
-      only-if : (st : WaitState A) → FirstFails HeapFull (stepStops address st s ds) → StepHeapFull st s
+      only-if : (st : WaitState A) → FirstFails AliveFull (stepStops address st s ds) → StepHeapFull st s
       only-if SendingPing (fails p q) = other q (omega arith)
       only-if (SendingPingReq a n) (fails p q) = (a, n, refl, leb-true _ _ p)
       only-if (SendingPingReq a n) (passes p (fails p′ q)) = other q (omega arith)

@@ -1,13 +1,14 @@
 -- A CALL THAT IS NOT KEPT hands back the node as it came, touches no lent row and no wait record, sends and reports nothing and uses no draw: whatever the call,
--- whichever of the ten refused it, and so if it answers "already" or "not due".
+-- whichever refusal it is, and so if it answers "already" or "not due".
 -- Assumes nothing.
 use mathlib.Core.Path.{_≡_, refl, sym, _∙_, ap, subst}
 use mathlib.Core.List.{List, [], map}
+use mathlib.Core.Option.{some}
 use Prim.Native.Nat.{ℕ}
 use lib.ListN.{length}
 use Rattle.model.specs.declared.Refusal.{Refusal}
 use Rattle.model.specs.declared.Reply.{Reply}
-use Rattle.model.specs.declared.Reply.the-variants.{Done, Already, NotDue, Refused}
+use Rattle.model.specs.declared.Reply.the-variants.{Done, Already, NotDue, Refused, RefusedAt}
 use Rattle.model.specs.declared.Settings.{Settings}
 use Rattle.address.specs.Here.{Addr, here}
 use Rattle.model.specs.Calls as calls
@@ -23,7 +24,7 @@ use Rattle.wait.specs.declared.Wait.{Wait}
 use Rattle.wait.specs.Views.{toWait, fromWait, from-to-wait}
 use Rattle.swim.specs.declared.Outcome.{Outcome}
 use Rattle.swim.specs.Contracts.{room, outcomeOf, rowAfter, Ends, Creates, Adds, Receives, Steps, EndsTimer}
-use Rattle.promises.specs.Replies.{NotDone, done-apart}
+use Rattle.promises.specs.Replies.{NotDone, refusal-unkept, done-apart}
 use Rattle.promises.specs.Given.{add-table, message-table, step-table, timer-table}
 use Rattle.promises.specs.Made.{lettersOf, Held, Said, Made, adds, receives, steps, endsTimer}
 
@@ -99,6 +100,7 @@ unkept-draws (Done used) unkept = absurd unkept
 unkept-draws Already unkept = refl
 unkept-draws NotDue unkept = refl
 unkept-draws (Refused r) unkept = refl
+unkept-draws (RefusedAt r at) unkept = refl
 
 -- and says to have written nothing
 silent : (h : Held) (c : Call Addr) (s : Said) (h′ : Held) → Made h c s h′ → NotDone (s .reply) → s .reported ≡ 0
@@ -124,8 +126,8 @@ pub unkept-keeps : (h h′ : Held) (c : Call Addr) (s : Said) → Made h c s h�
 unkept-keeps h h′ c s m unkept = record { held = keeps h c s h′ m unkept; letters = sends-none h c s h′ m unkept; reported = silent h c s h′ m unkept; draws = unkept-draws (s .reply) unkept }
 
 -- the theorem
-pub refused-keeps : (h h′ : Held) (c : Call Addr) (s : Said) (x : Refusal) → Made h c s h′ → s .reply ≡ Refused x → Untouched h h′ s
-refused-keeps h h′ c s x m said = unkept-keeps h h′ c s m (subst NotDone (sym said) tt)
+pub refused-keeps : (h h′ : Held) (c : Call Addr) (s : Said) (x : Refusal) → Made h c s h′ → calls.refusalOf (s .reply) ≡ some x → Untouched h h′ s
+refused-keeps h h′ c s x m said = unkept-keeps h h′ c s m (refusal-unkept (s .reply) x said)
 
 -- "refused, it returns no node": in its place stand zeros, and nothing is sent
 pub refused-creates-nothing : (settings : Settings) (own : Addr) (number : ℕ) (r : Answer) (x : Refusal) → Creates settings own number r → r .reply ≡ Refused x → r ≡ plainAnswer (Refused x) (packNode nobody)

@@ -1,21 +1,25 @@
 -- The kinds of reply are apart, and so are the numbers of the refusals.
 -- Assumes nothing.
 use mathlib.Core.Path.{_≡_, refl, sym, _∙_, ap}
+use mathlib.Core.Option.{some}
 use Prim.Native.Nat.{ℕ}
 use native.Mathlib.Omega.{arith}
 use lib.Dec.{eqb}
 use Rattle.model.specs.declared.Refusal.{Refusal}
-use Rattle.model.specs.declared.Refusal.the-variants.{Setting, Unsound, ShortRow, ManyRecords, AddressRange, NumberEnd, ListFull, DrawsShort, HeapFull, TimersFull, Malformed, NoRoom}
+use Rattle.model.specs.declared.Refusal.the-variants.{Setting, Unsound, ShortRow, ManyRecords, AddressRange, NumberEnd, ListFull, DrawsShort, AliveFull, TimersFull, Malformed, NoRoom, DeceasedFull}
+use Rattle.model.specs.declared.Cause.{Cause}
 use Rattle.model.specs.declared.Reply.{Reply}
-use Rattle.model.specs.declared.Reply.the-variants.{Done, Already, NotDue, Refused}
+use Rattle.model.specs.declared.Reply.the-variants.{Done, Already, NotDue, Refused, RefusedAt}
 use Rattle.model.specs.Rows.{pick}
 use Rattle.model.specs.Answers.{numberOf}
+use Rattle.model.specs.Calls.{refusalOf}
 
 kind : Reply → ℕ
 kind (Done used) = 0
 kind Already = 1
 kind NotDue = 2
 kind (Refused r) = 3
+kind (RefusedAt r at) = 4
 
 -- a reply of a call that is not kept: a refusal, "already", "not due"
 abbrev pub NotDone : Reply → Type 0
@@ -23,10 +27,23 @@ NotDone (Done used) = ⊥
 NotDone Already = Unit {0}
 NotDone NotDue = Unit {0}
 NotDone (Refused r) = Unit {0}
+NotDone (RefusedAt r at) = Unit {0}
+
+-- a refusal is not kept
+pub refusal-unkept : (z : Reply) (x : Refusal) → refusalOf z ≡ some x → NotDone z
+refusal-unkept (Done used) x e = let z : _≡_ {A = ℕ} 0 1 = cc in omega arith
+refusal-unkept Already x e = tt
+refusal-unkept NotDue x e = tt
+refusal-unkept (Refused r) x e = tt
+refusal-unkept (RefusedAt r at) x e = tt
 
 pub done-apart : {B : Type 0} {used : ℕ} {x : Refusal} → Done used ≡ Refused x → B
 unfolding kind
 done-apart e = let z : _≡_ {A = ℕ} 0 3 = ap kind e in absurd (omega arith)
+
+pub cause-apart : {B : Type 0} {r x : Refusal} {at : Cause} → Refused r ≡ RefusedAt x at → B
+unfolding kind
+cause-apart e = let z : _≡_ {A = ℕ} 3 4 = ap kind e in absurd (omega arith)
 
 pub already-apart : {B : Type 0} {x : Refusal} → Already ≡ Refused x → B
 unfolding kind
@@ -48,9 +65,10 @@ named n =
     (pick (eqb n 6) NumberEnd
     (pick (eqb n 7) ListFull
     (pick (eqb n 8) DrawsShort
-    (pick (eqb n 9) HeapFull
+    (pick (eqb n 9) AliveFull
     (pick (eqb n 10) TimersFull
-    (pick (eqb n 11) Malformed NoRoom))))))))))
+    (pick (eqb n 11) Malformed
+    (pick (eqb n 12) NoRoom DeceasedFull)))))))))))
 
 named-is : (x : Refusal) → named (numberOf x) ≡ x
 unfolding named
@@ -62,10 +80,11 @@ named-is AddressRange = refl
 named-is NumberEnd = refl
 named-is ListFull = refl
 named-is DrawsShort = refl
-named-is HeapFull = refl
+named-is AliveFull = refl
 named-is TimersFull = refl
 named-is Malformed = refl
 named-is NoRoom = refl
+named-is DeceasedFull = refl
 
 pub same-number : (r x : Refusal) → numberOf r ≡ numberOf x → r ≡ x
 same-number r x e = sym (named-is r) ∙ ap named e ∙ named-is x
@@ -79,7 +98,8 @@ not-zero AddressRange e = absurd (omega arith)
 not-zero NumberEnd e = absurd (omega arith)
 not-zero ListFull e = absurd (omega arith)
 not-zero DrawsShort e = absurd (omega arith)
-not-zero HeapFull e = absurd (omega arith)
+not-zero AliveFull e = absurd (omega arith)
 not-zero TimersFull e = absurd (omega arith)
 not-zero Malformed e = absurd (omega arith)
 not-zero NoRoom e = absurd (omega arith)
+not-zero DeceasedFull e = absurd (omega arith)

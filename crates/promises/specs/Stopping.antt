@@ -15,11 +15,11 @@ use Rattle.model.specs.declared.Kind.the-variants as kind
 use Rattle.model.specs.declared.State.{State}
 use Rattle.model.specs.declared.State.the-variants as state
 use Rattle.model.specs.declared.Refusal.{Refusal}
-use Rattle.model.specs.declared.Refusal.the-variants.{DrawsShort, HeapFull, TimersFull}
+use Rattle.model.specs.declared.Refusal.the-variants.{DrawsShort, AliveFull, TimersFull}
 use Rattle.model.specs.Rows.{pick, isEmpty, removeAt}
 use Rattle.laws.specs.Bools.{none-some}
 use Rattle.model.specs.Bounds.{last-number}
-use Rattle.model.specs.Answers.{Answer, done, refused, andThen, when, draw}
+use Rattle.model.specs.Answers.{Answer, done, refused, andThen, when, draw, fullOf}
 use Rattle.model.specs.Words.{Address, isAlive, partsOf, Event, Suspected, Deceased, Gossip, Timer, noTimer, WaitState, SendingPing, WaitingForPingAck, SendingPingReq, WaitingForPingReqAck, Declaring}
 use Rattle.model.specs.Members as list
 use Rattle.model.specs.Node as M
@@ -91,9 +91,9 @@ module _ {A : Type 0} (address : Address A) where
   unfolding list.add
   add-refuses a n s ds = tested (listFull s) (draw-refuses ds (λ d rest. goes tt))
 
-  emit-refuses : (k : Kind) (g : Gossip A) (s : Node A) (ds : List ℕ) → Refuses ((heapFull k s, HeapFull) ∷ []) (M.emit address k g s ds)
+  emit-refuses : (k : Kind) (g : Gossip A) (s : Node A) (ds : List ℕ) → Refuses ((heapFull k s, fullOf k) ∷ []) (M.emit address k g s ds)
   unfolding M.emit M.pushed
-  emit-refuses k g s ds = then ((heapFull k s, HeapFull) ∷ []) (tested (heapFull k s) (goes tt)) (λ d rest. goes tt)
+  emit-refuses k g s ds = then ((heapFull k s, fullOf k) ∷ []) (tested (heapFull k s) (goes tt)) (λ d rest. goes tt)
 
   -- nothing is asked for, one event, or an address with its event
   quiet-stops : (s : Node A) (ds : List ℕ) → Refuses (wantsStops nothingWanted s ds) (M.quiet s ds)
@@ -188,7 +188,7 @@ module _ {A : Type 0} (address : Address A) where
   end-refuses i s ds = then (endStops s) (ended-refuses (getD (s .timers) i (noTimer address)) (M.withTimers s (removeAt (s .timers) i)) ds) (λ o rest. goes tt)
 
   -- which refusals a step can give
-  pub step-among : (P : Refusal → Type 0) → P DrawsShort → P HeapFull → P TimersFull → (st : WaitState A) (s : Node A) (ds : List ℕ) → Among P (stepStops address st s ds)
+  pub step-among : (P : Refusal → Type 0) → P DrawsShort → P AliveFull → P TimersFull → (st : WaitState A) (s : Node A) (ds : List ℕ) → Among P (stepStops address st s ds)
   step-among P eight nine ten SendingPing s ds = (eight, tt)
   step-among P eight nine ten (WaitingForPingAck a n) s ds = tt
   step-among P eight nine ten (SendingPingReq a n) s ds = (nine, (eight, tt))

@@ -11,10 +11,10 @@ use lib.Dec.{leb, ltb}
 use Rattle.model.specs.declared.Kind.{Kind}
 use Rattle.model.specs.declared.Kind.the-variants as kind
 use Rattle.model.specs.declared.Refusal.{Refusal}
-use Rattle.model.specs.declared.Refusal.the-variants.{NumberEnd, ListFull, DrawsShort, HeapFull, TimersFull}
+use Rattle.model.specs.declared.Refusal.the-variants.{NumberEnd, ListFull, DrawsShort, AliveFull, TimersFull, DeceasedFull}
 use Rattle.model.specs.Rows.{pick, every, isEmpty}
 use Rattle.model.specs.Bounds.{list-places, heap-places, timer-places, last-number}
-use Rattle.model.specs.Answers.{done}
+use Rattle.model.specs.Answers.{done, fullOf}
 use Rattle.model.specs.Words.{Address, Event, Nothing, Joined, Recovered, Suspected, Deceased, Gossip, nothing, Timer, Action, Ping, WaitState, SendingPing, WaitingForPingAck, SendingPingReq, WaitingForPingReqAck, Declaring}
 use Rattle.model.specs.Node.{heapOf, Node, Out, lists, numbered, stateOf, heldDeath}
 use Rattle.model.specs.Handler.{believed, gossip}
@@ -28,7 +28,7 @@ pub record Wants : Type 0 where
   pub plus-one : Option ℕ
   -- 7, 8: that an address is added, at a place that is drawn
   pub adds : Bool
-  -- 9: that an event is pushed, and to which heap
+  -- 9 or 13: that an event is pushed, and to which heap
   pub pushes : Option Kind
 
 abbrev pub nothingWanted : Wants
@@ -52,6 +52,11 @@ pushIf u heap = pick u (some heap) none
 abbrev pub pushOnlyIf : Bool → Kind → Wants
 pushOnlyIf u heap = record { plus-one = none; adds = false; pushes = pushIf u heap }
 
+-- the refusal of the heap that an event is pushed to; without an event there is none
+abbrev pub fullFor : Option Kind → Refusal
+fullFor none = AliveFull
+fullFor (some heap) = fullOf heap
+
 module _ {A : Type 0} where
   abbrev pub listFull : Node A → Bool
   listFull s = leb list-places (length (s .members .table))
@@ -70,18 +75,18 @@ module _ {A : Type 0} where
   abbrev pub addStops : Node A → List ℕ → List (Bool × Refusal)
   addStops s ds = (listFull s, ListFull) ∷ (isEmpty ds, DrawsShort) ∷ []
 
-  -- "Within one gossip item or ping admission: 6, 7, 8, 9."
+  -- "Within one gossip item or ping admission: 6, 7, 8, 9", and 13 in 9's place
   abbrev pub wantsStops : Wants → Node A → List ℕ → List (Bool × Refusal)
   wantsStops w s ds =
       (atEnd (w .plus-one), NumberEnd)
       ∷ (w .adds && listFull s, ListFull)
       ∷ (w .adds && isEmpty ds, DrawsShort)
-      ∷ (noRoom (w .pushes) s, HeapFull)
+      ∷ (noRoom (w .pushes) s, fullFor (w .pushes))
       ∷ []
 
-  -- an ended timer, which emits Deceased: 9
+  -- an ended timer, which emits Deceased: 13
   abbrev pub endStops : Node A → List (Bool × Refusal)
-  endStops s = (heapFull kind.Deceased s, HeapFull) ∷ []
+  endStops s = (heapFull kind.Deceased s, DeceasedFull) ∷ []
 
 module _ {A : Type 0} (address : Address A) where
   -- what a gossip item asks for, by the handler's rules
@@ -119,7 +124,7 @@ module _ {A : Type 0} (address : Address A) where
   abbrev pub stepStops : WaitState A → Node A → List ℕ → List (Bool × Refusal)
   stepStops SendingPing s ds = (ltb (length ds) (pingReads s ds), DrawsShort) ∷ []
   stepStops (WaitingForPingAck a n) s ds = []
-  stepStops (SendingPingReq a n) s ds = (heapFull kind.Alive s, HeapFull) ∷ (ltb (length ds) (groupReads a s ds), DrawsShort) ∷ []
+  stepStops (SendingPingReq a n) s ds = (heapFull kind.Alive s, AliveFull) ∷ (ltb (length ds) (groupReads a s ds), DrawsShort) ∷ []
   stepStops (WaitingForPingReqAck a n) s ds = []
   stepStops (Declaring a n) s ds = (timersFull s, TimersFull) ∷ []
 
@@ -133,11 +138,15 @@ module _ {A : Type 0} (address : Address A) (gs : List (Gossip A)) (s : Node A) 
     pub through : gossip address (take k gs) s ds ≡ done so-far left
     pub stops : FirstFails x (itemStops address (getD gs k nothing .event) (so-far .node) left)
 
-  -- a message stops at a record, or, once through all of them, at the admission of a Ping's sender
+  -- they get through all of them, and the admission of a Ping's sender stops
+  pub data AdmissionStops : Action A → Type 0 where
+    at-admission : {from : A} {by : Option A} (so-far : Out A) (left : List ℕ)
+        → gossip address gs s ds ≡ done so-far left → FirstFails x (admitStops address from (so-far .node) left) → AdmissionStops (Ping from by)
+
+  -- a message stops at a record or at the admission
   pub data MessageStops : Action A → Type 0 where
     at-record : {action : Action A} (k : ℕ) → StopsAt k → MessageStops action
-    at-admission : {from : A} {by : Option A} (so-far : Out A) (left : List ℕ)
-        → gossip address gs s ds ≡ done so-far left → FirstFails x (admitStops address from (so-far .node) left) → MessageStops (Ping from by)
+    at-sender : {action : Action A} → AdmissionStops action → MessageStops action
 
 -- ---- the step and the timer call, in plain words
 module _ {A : Type 0} where

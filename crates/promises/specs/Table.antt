@@ -4,13 +4,15 @@ use mathlib.Core.Path.{_≡_, refl, _∙_, ap}
 use mathlib.Core.Logic.{_↔_}
 use mathlib.Core.Bool.{Bool, true, false}
 use mathlib.Core.List.{List, [], _∷_, map}
+use mathlib.Core.Option.{none}
 use Prim.Native.Nat.{ℕ, _≤_, _<_}
 use native.Mathlib.Omega.{arith}
 use lib.ListN.{length}
 use lib.Dec.{eqb}
 use Rattle.model.specs.declared.Refusal.{Refusal}
-use Rattle.model.specs.declared.Refusal.the-variants.{ListFull, DrawsShort, HeapFull, TimersFull}
-use Rattle.model.specs.declared.Reply.the-variants.{Already, NotDue}
+use Rattle.model.specs.declared.Refusal.the-variants.{ListFull, DrawsShort, AliveFull, TimersFull, DeceasedFull}
+use Rattle.model.specs.declared.Cause.the-variants.{Record, Sender}
+use Rattle.model.specs.declared.Reply.the-variants.{Already, NotDue, RefusedAt}
 use Rattle.model.specs.Rows.{has}
 use Rattle.model.specs.Bounds.{list-places, heap-places}
 use Rattle.model.specs.Answers.{numberOf}
@@ -18,7 +20,7 @@ use Rattle.address.specs.Here.{Addr, here}
 use Rattle.model.specs.Node.{lists}
 use Rattle.model.specs.Detector.{due}
 use Rattle.model.specs.Calls as calls
-use Rattle.model.specs.Calls.{replyNumber}
+use Rattle.model.specs.Calls.{replyNumber, causeOf}
 use Rattle.types.specs.declared.Gossip.{Gossip}
 use Rattle.types.specs.declared.Action.{Action}
 use Rattle.types.specs.Views.{toGossip, toAction}
@@ -31,16 +33,19 @@ use Rattle.swim.specs.declared.Outcome.{Outcome}
 use Rattle.swim.specs.Contracts.{room, outcomeOf, Adds, Receives, Steps, EndsTimer}
 use Rattle.swim.specs.Lookups.{handed}
 use Rattle.promises.specs.Firsts.{FirstFails, Passed, first-among}
-use Rattle.promises.specs.Stops.{stepStops, MessageStops, StepTimersFull, StepHeapFull, StepDrawsShort, noneOver}
+use Rattle.promises.specs.Stops.{stepStops, StopsAt, AdmissionStops, MessageStops, StepTimersFull, StepHeapFull, StepDrawsShort, noneOver}
 use Rattle.promises.specs.Stopping.{step-among}
-use Rattle.promises.specs.Records.{message-among}
-use Rattle.promises.specs.Given.{OneOf, numbers, add-table, message-table, step-table, timer-table}
+use Rattle.promises.specs.Records.{message-among, tells-record, tells-sender}
+use Rattle.promises.specs.Given.{OneOf, numbers, add-table, message-table, message-cause, step-table, timer-table, add-no-cause, step-no-cause, timer-no-cause}
 use Rattle.promises.specs.Plainly.{add-full, add-short, end-full, step-timers-full, step-heap-full, step-draws-short}
 use Rattle.promises.specs.Exactly.{as-told}
 
 -- tests, a condition and a list of tests, which is said in plain words
 plainly : {G T P F W : Type 0} → G ↔ (T × (P × F)) → F ↔ W → G ↔ (T × P × W)
 plainly h w = ((λ g. let p = h .0 g in (p .0, p .1 .0, w .0 (p .1 .1))), (λ p. h .1 (p .0, (p .1, w .1 (p .2)))))
+
+also : {G T P Q : Type 0} → G ↔ (T × P) → P ↔ Q → G ↔ (T × Q)
+also h w = ((λ g. let p = h .0 g in (p .0, w .0 (p .1))), (λ p. h .1 (p .0, w .1 (p .1))))
 
 -- ---- adding a peer
 module _ (node : Node) (a : Addr) (number : ℕ) (draws : List ℕ) (r : Answer) (met : Adds node a number draws r) where
@@ -69,6 +74,11 @@ module _ (node : Node) (a : Addr) (number : ℕ) (draws : List ℕ) (r : Answer)
       let ns : List ℕ = 0 ∷ 2 ∷ 5 ∷ 7 ∷ 8 ∷ [] in
       ap (λ (n : Answer). has eqb (replyNumber (n .reply)) ns) (met .answer) ∙ numbers (add-table here (storedView node) a number draws) ns refl (refl, (refl, tt)) (λ x h. first-among (λ y. OneOf ns (numberOf y)) (h .1) (refl, (refl, tt)))
 
+  -- "A detector, timer or add refusal has no record number."
+  pub add-no-record : causeOf (r .reply) ≡ none
+  unfolding answerOf
+  add-no-record = (λ i. causeOf (met .answer i .reply)) ∙ add-no-cause here (storedView node) a number draws
+
 -- ---- the detector step
 module _ (node : Node) (wait : Wait) (tick : ℕ) (draws : List ℕ) (gossip events : List Gossip) (r : Outcome) (w : Wait) (g e : List Gossip) (met : Steps node wait tick draws gossip events r w g e) where
   abbrev StepPassed : Type 0
@@ -91,7 +101,7 @@ module _ (node : Node) (wait : Wait) (tick : ℕ) (draws : List ℕ) (gossip eve
 
   -- the suspicion's event finds the alive heap full
   pub step-9 : (replyNumber (r .answer .reply) ≡ 9) ↔ (StepPassed × (due (node .settings) (toWait wait) tick ≡ true) × StepHeapFull (toWait wait .state) (handed node))
-  step-9 = plainly (step-stops HeapFull (omega arith)) (step-heap-full here (handed node) draws (toWait wait .state))
+  step-9 = plainly (step-stops AliveFull (omega arith)) (step-heap-full here (handed node) draws (toWait wait .state))
 
   -- the declaration finds 16 timers running
   pub step-10 : (replyNumber (r .answer .reply) ≡ 10) ↔ (StepPassed × (due (node .settings) (toWait wait) tick ≡ true) × StepTimersFull (toWait wait .state) (handed node))
@@ -105,6 +115,10 @@ module _ (node : Node) (wait : Wait) (tick : ℕ) (draws : List ℕ) (gossip eve
       ap (λ (o : Outcome). has eqb (replyNumber (o .answer .reply)) ns) (met .ends .answer)
       ∙ numbers (step-table here (storedView node) (toWait wait) tick draws (room gossip events)) ns refl (refl, (refl, (refl, tt)))
       (λ x h. first-among (λ y. OneOf ns (numberOf y)) (h .1) (step-among here (λ y. OneOf ns (numberOf y)) refl refl refl (toWait wait .state) (handed node) draws))
+
+  pub step-no-record : causeOf (r .answer .reply) ≡ none
+  unfolding outcomeOf answerOf
+  step-no-record = (λ i. causeOf (met .ends .answer i .answer .reply)) ∙ step-no-cause here (storedView node) (toWait wait) tick draws (room gossip events)
 
 -- ---- the timer call
 module _ (node : Node) (tick : ℕ) (events : List Gossip) (r : Outcome) (e : List Gossip) (met : EndsTimer node tick events r e) where
@@ -121,32 +135,50 @@ module _ (node : Node) (tick : ℕ) (events : List Gossip) (r : Outcome) (e : Li
   timer-not-due = as-told (λ i. met .answer i .answer .reply) (timer-table here (storedView node) tick (record { gossip = 0; events = length events }) .idles)
 
   -- one is over, and its event finds the deceased heap full
-  pub timer-9 : (replyNumber (r .answer .reply) ≡ 9) ↔ (TimerPassed × (none-over ≡ false) × (heap-places ≤ length (handed node .disseminator .deceased)))
+  pub timer-13 : (replyNumber (r .answer .reply) ≡ 13) ↔ (TimerPassed × (none-over ≡ false) × (heap-places ≤ length (handed node .disseminator .deceased)))
   unfolding outcomeOf answerOf storedView
-  timer-9 = as-told (λ i. replyNumber (met .answer i .answer .reply)) (plainly (timer-table here (storedView node) tick (record { gossip = 0; events = length events }) .stops HeapFull (omega arith)) (end-full (handed node)))
+  timer-13 = as-told (λ i. replyNumber (met .answer i .answer .reply)) (plainly (timer-table here (storedView node) tick (record { gossip = 0; events = length events }) .stops DeceasedFull (omega arith)) (end-full (handed node)))
 
-  -- and never 6, 7, 8 or 10
-  pub timer-numbers : OneOf (0 ∷ 2 ∷ 3 ∷ 9 ∷ []) (replyNumber (r .answer .reply))
+  -- and never 6 to 10
+  pub timer-numbers : OneOf (0 ∷ 2 ∷ 3 ∷ 13 ∷ []) (replyNumber (r .answer .reply))
   unfolding outcomeOf answerOf
   timer-numbers =
-      let ns : List ℕ = 0 ∷ 2 ∷ 3 ∷ 9 ∷ [] in
+      let ns : List ℕ = 0 ∷ 2 ∷ 3 ∷ 13 ∷ [] in
       ap (λ (o : Outcome). has eqb (replyNumber (o .answer .reply)) ns) (met .answer)
       ∙ numbers (timer-table here (storedView node) tick (record { gossip = 0; events = length events })) ns refl (refl, (refl, tt)) (λ x h. first-among (λ y. OneOf ns (numberOf y)) (h .1) (refl, tt))
+
+  pub timer-no-record : causeOf (r .answer .reply) ≡ none
+  unfolding outcomeOf answerOf
+  timer-no-record = (λ i. causeOf (met .answer i .answer .reply)) ∙ timer-no-cause here (storedView node) tick (record { gossip = 0; events = length events })
 
 -- ---- the message
 module _ (node : Node) (action : Action) (rows : List Gossip) (draws : List ℕ) (gossip events : List Gossip) (r : Outcome) (g e : List Gossip) (met : Receives node action rows draws gossip events r g e) where
   abbrev ReceivePassed : Type 0
   ReceivePassed = Passed (calls.messageTests here (storedView node) (toAction action) (map toGossip rows) (room gossip events))
 
-  -- 6 to 9: a record stops, or the admission of a Ping's sender
+  -- 6 to 9 and 13: a record stops, or the admission of a Ping's sender
   pub receive-stops : (x : Refusal) → 6 ≤ numberOf x → (replyNumber (r .answer .reply) ≡ numberOf x) ↔ (ReceivePassed × MessageStops here (map toGossip rows) (handed node) draws x (toAction action))
   unfolding outcomeOf answerOf
   receive-stops x late = as-told (λ i. replyNumber (met .ends .answer i .answer .reply)) (message-table here (storedView node) (toAction action) (map toGossip rows) draws (room gossip events) .stops x late)
 
+  -- "the number of the gossip record that caused it, counted from 0": record k is told exactly if the rules get through those before it, and it stops
+  pub receive-record : (x : Refusal) (k : ℕ) → (r .answer .reply ≡ RefusedAt x (Record k)) ↔ (ReceivePassed × StopsAt here (map toGossip rows) (handed node) draws x k)
+  unfolding outcomeOf answerOf
+  receive-record x k =
+      as-told (λ i. met .ends .answer i .answer .reply)
+      (also (message-cause here (storedView node) (toAction action) (map toGossip rows) draws (room gossip events) x (Record k)) (tells-record here x (toAction action) (map toGossip rows) (handed node) draws k))
+
+  -- "or .. that it was the sender's own admission": they get through all of them
+  pub receive-sender : (x : Refusal) → (r .answer .reply ≡ RefusedAt x Sender) ↔ (ReceivePassed × AdmissionStops here (map toGossip rows) (handed node) draws x (toAction action))
+  unfolding outcomeOf answerOf
+  receive-sender x =
+      as-told (λ i. met .ends .answer i .answer .reply)
+      (also (message-cause here (storedView node) (toAction action) (map toGossip rows) draws (room gossip events) x Sender) (tells-sender here x (toAction action) (map toGossip rows) (handed node) draws))
+
   -- and never 10
-  pub receive-numbers : OneOf (0 ∷ 2 ∷ 3 ∷ 4 ∷ 5 ∷ 6 ∷ 7 ∷ 8 ∷ 9 ∷ []) (replyNumber (r .answer .reply))
+  pub receive-numbers : OneOf (0 ∷ 2 ∷ 3 ∷ 4 ∷ 5 ∷ 6 ∷ 7 ∷ 8 ∷ 9 ∷ 13 ∷ []) (replyNumber (r .answer .reply))
   unfolding outcomeOf answerOf
   receive-numbers =
-      let ns : List ℕ = 0 ∷ 2 ∷ 3 ∷ 4 ∷ 5 ∷ 6 ∷ 7 ∷ 8 ∷ 9 ∷ [] in
+      let ns : List ℕ = 0 ∷ 2 ∷ 3 ∷ 4 ∷ 5 ∷ 6 ∷ 7 ∷ 8 ∷ 9 ∷ 13 ∷ [] in
       ap (λ (o : Outcome). has eqb (replyNumber (o .answer .reply)) ns) (met .ends .answer)
-      ∙ numbers (message-table here (storedView node) (toAction action) (map toGossip rows) draws (room gossip events)) ns refl (refl, (refl, (refl, (refl, tt)))) (λ x h. message-among (λ y. OneOf ns (numberOf y)) refl refl refl refl h)
+      ∙ numbers (message-table here (storedView node) (toAction action) (map toGossip rows) draws (room gossip events)) ns refl (refl, (refl, (refl, (refl, tt)))) (λ x h. message-among (λ y. OneOf ns (numberOf y)) refl refl refl refl refl h)

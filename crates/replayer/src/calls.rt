@@ -45,6 +45,7 @@ fn is_refused(reply: Reply) -> bool {
         Reply::Already => false,
         Reply::NotDue => false,
         Reply::Refused(_) => true,
+        Reply::RefusedAt(_, _) => true,
     }
 }
 

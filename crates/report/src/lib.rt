@@ -1,6 +1,7 @@
 // Writes answers as text. Bytes gather in a lent buffer from place 0 on, and go to standard output whenever it is full.
 use address::Address;
 use libc::STDOUT_FILENO;
+use model::Cause;
 use model::Refusal;
 use model::Reply;
 use model::State;
@@ -185,6 +186,19 @@ pub fn put_written(out: &mut [u8], at: usize, bytes: &[u8]) -> usize {
     put_byte(out, end, b'\n')
 }
 
+fn put_refusal(out: &mut [u8], at: usize, refusal: Refusal) -> usize {
+    let word = put_bytes(out, at, b"= refused");
+    put_marked(out, word, b' ', model::refusal_number(refusal) as u64)
+}
+
+// Which record, counted from 0, or the sender.
+fn put_cause(out: &mut [u8], at: usize, cause: Cause) -> usize {
+    match cause {
+        Cause::Record(k) => put_marked(out, at, b' ', k as u64),
+        Cause::Sender => put_bytes(out, at, b" sender"),
+    }
+}
+
 fn put_verdict(out: &mut [u8], at: usize, reply: Reply) -> usize {
     match reply {
         Reply::Done(used) => {
@@ -193,9 +207,10 @@ fn put_verdict(out: &mut [u8], at: usize, reply: Reply) -> usize {
         }
         Reply::Already => put_bytes(out, at, b"= already"),
         Reply::NotDue => put_bytes(out, at, b"= notdue"),
-        Reply::Refused(refusal) => {
-            let word = put_bytes(out, at, b"= refused");
-            put_marked(out, word, b' ', model::refusal_number(refusal) as u64)
+        Reply::Refused(refusal) => put_refusal(out, at, refusal),
+        Reply::RefusedAt(refusal, cause) => {
+            let number = put_refusal(out, at, refusal);
+            put_cause(out, number, cause)
         }
     }
 }

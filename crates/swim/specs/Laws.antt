@@ -19,7 +19,7 @@ use Rattle.address.specs.Here.{Addr, here}
 use Rattle.model.specs.Words as W
 use Rattle.model.specs.Node as M
 use Rattle.model.specs.Sound.{sound, validGossip}
-use Rattle.model.specs.Handler.{handle}
+use Rattle.model.specs.Handler.{handle, stopsAt}
 use Rattle.model.specs.Calls as calls
 use Rattle.types.specs.declared.Gossip.{Gossip}
 use Rattle.types.specs.Views.{toGossip, fromGossip, noGossip, from-to-gossips}
@@ -59,7 +59,7 @@ module _ (s : M.Stored Addr) (action : W.Action Addr) (ds : List ℕ) (lent : Ro
       ∙ (λ i. calls.firstOf (tests (sym (lt-ltb 64 (length gs′) m′) i) gs′) (calls.refuses s) (go gs′))
     where
       go : List (W.Gossip Addr) → calls.Outcome Addr
-      go gs = calls.kept here s ds (handle here action gs (M.loaded s) ds)
+      go gs = calls.keptMessage here s (stopsAt here gs (M.loaded s) ds) ds (handle here action gs (M.loaded s) ds)
 
       after : List (W.Gossip Addr) → List (Bool × Refusal)
       after gs = (not (calls.validAction here action && every (validGossip here) gs), AddressRange) ∷ []

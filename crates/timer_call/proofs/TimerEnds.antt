@@ -12,7 +12,7 @@ use lib.Dec.{ltb}
 use borrow.Author.Tests.{lt-ltb, le-ltb}
 use Rattle.model.specs.declared.Kind.the-variants as kind
 use Rattle.model.specs.declared.Refusal.{Refusal}
-use Rattle.model.specs.declared.Refusal.the-variants.{Unsound, ShortRow, HeapFull}
+use Rattle.model.specs.declared.Refusal.the-variants.{Unsound, ShortRow, DeceasedFull}
 use Rattle.model.specs.declared.Reply.{Reply}
 use Rattle.model.specs.declared.Reply.the-variants.{Done, NotDue, Refused}
 use Rattle.model.specs.Rows.{pick, every, removeAt}
@@ -148,9 +148,9 @@ module _ (q : Death) where
       ap (λ (x : W.Timer Addr). D.ended here x fewer []) (timer-at (q .node .timers) (q .place) (q .within))
       ∙ ap (λ (x : Event). M.emit here kind.Deceased (record { event = toEvent x }) gone []) (sym (q .named))
 
-  pub end-full : q .pushed .full ≡ true → plainEnd (Refused HeapFull) (q .node) ≡ outcome (D.endAt here (q .place) (viewNode (q .node)) [])
+  pub end-full : q .pushed .full ≡ true → plainEnd (Refused DeceasedFull) (q .node) ≡ outcome (D.endAt here (q .place) (viewNode (q .node)) [])
   end-full h =
-      plain-end (Refused HeapFull) (q .node)
+      plain-end (Refused DeceasedFull) (q .node)
       ∙ sym (ap outcome (ends ∙ emit-full kind.Deceased (toGossip (q .gossip)) [] gone-good gone-is (q .pushed-is) h))
 
   pub end-kept : q .pushed .full ≡ false → saidEnd (withDisseminator left (q .pushed .disseminator)) (q .gossip) ≡ outcome (D.endAt here (q .place) (viewNode (q .node)) [])

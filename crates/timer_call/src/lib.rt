@@ -76,7 +76,7 @@ fn end_at(node: Node, place: usize) -> Ended
     };
     let pushed = disseminate::grow(node.disseminator.deceased, gossip);
     if pushed.full {
-        return Ended::plain(Reply::Refused(Refusal::HeapFull), node);
+        return Ended::plain(Reply::Refused(Refusal::DeceasedFull), node);
     }
     let settings = node.settings;
     let alive = node.disseminator.alive;

@@ -13,6 +13,7 @@ fn refusal(reply: Reply) -> u64 {
         Reply::Already => 0,
         Reply::NotDue => 0,
         Reply::Refused(refusal) => model::refusal_number(refusal) as u64,
+        Reply::RefusedAt(refusal, _) => model::refusal_number(refusal) as u64,
     }
 }
 

@@ -23,7 +23,7 @@ use Rattle.model.specs.Heap.{climbIn, climb, lower, downIn, down, push, sinkTop
 use Rattle.model.specs.Choose.{termsOf, wasNoted, takeTop, tryHeap, tryAlive, tryDeceased, over, rounds, choose, orElse, death}
 use Rattle.model.specs.Members.{Members, shuffle, advance, added, add, remove, update, seek, pickFrom}
 use Rattle.model.specs.Node.{Node, Out, stored, loaded, withDisseminator, withTimers, quiet, andMore, pushed, emit, change, leave, spread}
-use Rattle.model.specs.Handler.{Enter, judgeSender, listAfter, newsOf, act, joinedAt, joined, recovered, believed, suspectedOther, suspected, deceased, item, gossip, admit, answerTo, handle}
+use Rattle.model.specs.Handler.{Enter, judgeSender, listAfter, newsOf, act, joinedAt, joined, recovered, believed, suspectedOther, suspected, deceased, item, gossip, causeAt, stopsAt, admit, answerTo, handle}
 use Rattle.model.specs.Detector.{Stepped, isOver, due, enters, pinged, sendPing, heard, waited, suspect, asked, pickGroup, sendPingReq, declare}
 use Rattle.model.specs.Sound.{inRange, positioned, validGossip, soundEntry, soundHeap, soundMembers, soundTimers, sound}
 use Rattle.model.specs.Calls.{packed, validAction, validState, addPeer, message, detect, endTimer}
@@ -115,6 +115,9 @@ manyTold = spreading (replicate 10 (sent 0 x)) (replicate 70 (sent 0 (dead 0)))
 abbrev heapFull : Node ℕ
 heapFull = spreading (replicate 128 (sent 0 x)) []
 
+abbrev deathsFull : Node ℕ
+deathsFull = spreading [] (replicate 128 (sent 0 (dead 0)))
+
 abbrev listFull : Node ℕ
 listFull = node (among (hosts 64) 0) [] []
 
@@ -134,7 +137,7 @@ beforeOwn = node (among (B ∷ C ∷ own ∷ []) 2) [] []
 
 abbrev pub inputs : List (Node ℕ)
 inputs =
-    alone ∷ emptied ∷ buried ∷ buriedTwice ∷ threeTold ∷ manyTold ∷ heapFull ∷ listFull ∷ fullAfterADeath last-number
+    alone ∷ emptied ∷ buried ∷ buriedTwice ∷ threeTold ∷ manyTold ∷ heapFull ∷ deathsFull ∷ listFull ∷ fullAfterADeath last-number
     ∷ timersFull ∷ beforeC ∷ beforeOwn
     ∷ withB state.Alive 0 ∷ withB state.Alive 4 ∷ withB state.Pending 4 ∷ withB state.Pending 5 ∷ withB state.Suspected 4 ∷ []
 
@@ -172,6 +175,11 @@ wrongs =
     seen (λ p ms. look.each look.ofGossip (p ms)) at (letter x ∷ letter y ∷ []) yet-at (letter x ∷ []))
     -- the refusals of the rules
     ∷ (wrong.numberComesRound is-not ruleOf Suspected seen (λ p n. ofRule (p own n) alone []) at last-number yet-at 6)
+    ∷ (wrong.nineForAnyHeap is-not emit ipv4 kind.Deceased seen (λ p s. ofRule (p (dead 1)) s []) at deathsFull yet-at alone)
+    ∷ (wrong.recordsFromOne is-not stopsAt ipv4 seen (λ p gs. look.ofCause (p gs alone [])) at (x ∷ []) yet-at [])
+    ∷ (wrong.eventsCounted is-not stopsAt ipv4 seen (λ p gs. look.ofCause (p gs alone [])) at (nothing ∷ x ∷ []) yet-at (x ∷ []))
+    ∷ (wrong.lastRecordTold is-not stopsAt ipv4 seen (λ p gs. look.ofCause (p gs alone [])) at (x ∷ nothing ∷ []) yet-at (x ∷ []))
+    ∷ (wrong.senderForItsRecord B is-not stopsAt ipv4 seen (λ p gs. look.ofCause (p gs alone [])) at (says Joined B 0 ∷ []) yet-at (says Joined C 0 ∷ []))
     ∷ (wrong.oldestEnds is-not declare ipv4 seen (λ p s. ofDetector (p B 4 20) s) at timersFull yet-at alone)
     ∷ (wrong.roomBeforeNumber is-not ruleOf Joined
     seen (λ p n. ofRule (p (host 64) 0) (fullAfterADeath n) []) at last-number yet-at 7)
@@ -247,7 +255,7 @@ all-told (w ∷ ws) e = let p = and-split (told w) (allTold ws) e in both w (p .
         (told-apart (run program far) (run rule far) (p .0), told-equal (run program near) (run rule near) (p .1))
 
 pub differ : All wrongs
-unfolding when swap leastFrom leastPower limitOf varintFrom varintLength numberSize sizeOver sizeOf digits textLength partsOf sameGossip climbIn climb lower downIn down push sinkTop removeTop allBelow termsOf wasNoted takeTop tryHeap tryAlive tryDeceased over rounds choose orElse death shuffle advance added add remove update seek pickFrom stored loaded quiet andMore pushed emit change leave spread joinedAt joined recovered believed suspectedOther suspected deceased judgeSender listAfter newsOf act item admit answerTo handle isOver due pinged sendPing heard waited suspect asked pickGroup sendPingReq declare inRange positioned validGossip soundEntry soundHeap soundMembers soundTimers sound validAction validState addPeer message detect endTimer
+unfolding when swap leastFrom leastPower limitOf varintFrom varintLength numberSize sizeOver sizeOf digits textLength partsOf sameGossip climbIn climb lower downIn down push sinkTop removeTop allBelow termsOf wasNoted takeTop tryHeap tryAlive tryDeceased over rounds choose orElse death shuffle advance added add remove update seek pickFrom stored loaded quiet andMore pushed emit change leave spread joinedAt joined recovered believed suspectedOther suspected deceased judgeSender listAfter newsOf act item causeAt stopsAt admit answerTo handle isOver due pinged sendPing heard waited suspect asked pickGroup sendPingReq declare inRange positioned validGossip soundEntry soundHeap soundMembers soundTimers sound validAction validState addPeer message detect endTimer
 differ = all-told wrongs refl
 
 -- and each contract admits these inputs, since each node is sound

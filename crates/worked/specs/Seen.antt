@@ -13,7 +13,9 @@ use Rattle.model.specs.declared.State.{State}
 use Rattle.model.specs.declared.State.the-variants.{Alive, Pending}
 use Rattle.model.specs.declared.State.the-variants as state
 use Rattle.model.specs.declared.Reply.{Reply}
-use Rattle.model.specs.declared.Reply.the-variants.{Done, Already, NotDue, Refused}
+use Rattle.model.specs.declared.Cause.{Cause}
+use Rattle.model.specs.declared.Cause.the-variants.{Record, Sender}
+use Rattle.model.specs.declared.Reply.the-variants.{Done, Already, NotDue, Refused, RefusedAt}
 use Rattle.model.specs.Rows.{one}
 use Rattle.laws.specs.Bools.{and-split}
 use Rattle.model.specs.Answers.{Answer, done, refused, numberOf}
@@ -133,12 +135,18 @@ ofTerms t = t .alive-share ∷ t .deceased-share ∷ t .max-size ∷ t .limit �
 abbrev pub ofChoice : Choice ℕ → List ℕ
 ofChoice c = counted ofGossip (c .chosen) ++ counted ofEntry (c .alive) ++ counted ofEntry (c .deceased)
 
--- refusals have their numbers, which are below 98
+-- where the rules of a message stopped
+abbrev pub ofCause : Cause → List ℕ
+ofCause (Record k) = 0 ∷ k ∷ []
+ofCause Sender = 1 ∷ []
+
+-- a refusal has its number, which is below 100
 abbrev pub ofReply : Reply → List ℕ
 ofReply (Done used) = 0 ∷ used ∷ []
-ofReply Already = 98 ∷ []
-ofReply NotDue = 99 ∷ []
+ofReply Already = 100 ∷ []
+ofReply NotDue = 101 ∷ []
 ofReply (Refused r) = numberOf r ∷ []
+ofReply (RefusedAt r at) = numberOf r ∷ ofCause at
 
 -- of a call: how it ended, what is sent and reported, and the node that the rows hold
 abbrev pub ofOutcome : Outcome ℕ → List ℕ

@@ -10,21 +10,23 @@ use lib.Dec.{eqb, ltb, leb}
 use Rattle.model.specs.declared.Kind.{Kind}
 use Rattle.model.specs.declared.Kind.the-variants as kind
 use Rattle.model.specs.declared.State.the-variants as state
-use Rattle.model.specs.declared.Refusal.the-variants.{Unsound, ShortRow, ManyRecords, AddressRange, NumberEnd, ListFull, TimersFull}
+use Rattle.model.specs.declared.Cause.{Cause}
+use Rattle.model.specs.declared.Cause.the-variants.{Record, Sender}
+use Rattle.model.specs.declared.Refusal.the-variants.{Unsound, ShortRow, ManyRecords, AddressRange, NumberEnd, ListFull, AliveFull, TimersFull}
 use Rattle.model.specs.declared.Reply.the-variants.{NotDue}
 use Rattle.model.specs.Rows.{pick, every, has, swap}
-use Rattle.model.specs.Bounds.{list-places, timer-places, message-records, most-sends, Room, message-room, timer-room}
+use Rattle.model.specs.Bounds.{list-places, heap-places, timer-places, message-records, most-sends, Room, message-room, timer-room}
 use Rattle.model.specs.Answers.{Answer, done, refused, andThen, when, draw}
 use Rattle.address.specs.IPv4.{ipv4}
-use Rattle.model.specs.Words.{Event, Joined, Recovered, Suspected, Deceased, Gossip, Entry, unused, sendsOf, Member, Wait, WaitState, SendingPing, Declaring, Action, Ping, PingReq, Ack, Message, partsOf}
+use Rattle.model.specs.Words.{Event, Nothing, nothing, Joined, Recovered, Suspected, Deceased, Gossip, Entry, unused, sendsOf, Member, Wait, WaitState, SendingPing, Declaring, Action, Ping, PingReq, Ack, Message, partsOf}
 use Rattle.model.specs.Heap.{parent, sink}
 use Rattle.model.specs.Choose.{Terms, Choice, choose, deathIn}
 use Rattle.model.specs.Members as list
 use Rattle.model.specs.Node.{Node, Out, Effect, Stored, loaded, withMembers, withTimers, quiet, andMore, plusOne, deathPlusOne, emit, lists, numbered, stateOf, heldDeath, change, leave}
-use Rattle.model.specs.Handler.{Enter, joinedAt, suspectedOther, act, item, gossip, admit, ackTarget, answerTo, handle}
+use Rattle.model.specs.Handler.{Enter, joinedAt, suspectedOther, act, item, gossip, through, stopsAt, admit, ackTarget, answerTo, handle}
 use Rattle.model.specs.Detector.{Stepped, due, step, enters, moves, pinged, pickGroup, suspect, asked, firstOver}
 use Rattle.model.specs.Sound.{ofKind, distinct, positioned, permutes, validGossip, soundEntry, isNoMember, sound}
-use Rattle.model.specs.Calls.{Outcome, StepOutcome, firstOf, short, unchanged, refuses, orAlready, whenDue, written, validAction, kept, joins, keptStep, stepTests, endsAt}
+use Rattle.model.specs.Calls.{Outcome, StepOutcome, firstOf, short, unchanged, refuses, orAlready, whenDue, written, validAction, kept, keptMessage, joins, keptStep, stepTests, endsAt}
 use Rattle.worked.specs.Seen.{stateNumber}
 
 -- where a number plus one is needed
@@ -44,7 +46,7 @@ addressesBeforeTheCount s action gs ds lent =
     ∷ (ltb message-records (length gs), ManyRecords)
     ∷ [])
     (refuses s)
-    (kept ipv4 s ds (handle ipv4 action gs (loaded s) ds))
+    (keptMessage ipv4 s (stopsAt ipv4 gs (loaded s) ds) ds (handle ipv4 action gs (loaded s) ds))
 
 -- 2 is not tested
 abbrev pub soundnessForgotten : Stored ℕ → ℕ → ℕ → List ℕ → Outcome ℕ
@@ -90,6 +92,38 @@ numberComesRound a n s ds =
     when (eqb (s .own) a)
     (emit ipv4 kind.Alive (record { event = Recovered (s .own) (s .own) ((n + 1) % 2 ^ 64) }) s ds)
     (act ipv4 (suspectedOther ipv4 a n (s .members .table)) s ds)
+
+-- 9 is given for a full deceased heap too
+abbrev pub nineForAnyHeap : Gossip ℕ → Node ℕ → List ℕ → Answer (Out ℕ)
+nineForAnyHeap g s ds = when (leb heap-places (length (s .disseminator .deceased))) (refused AliveFull) (emit ipv4 kind.Deceased g s ds)
+
+-- Where a message stopped.
+
+-- records are numbered from 1
+abbrev pub recordsFromOne : List (Gossip ℕ) → Node ℕ → List ℕ → Cause
+recordsFromOne gs s ds = let k = through ipv4 gs s ds in pick (ltb k (length gs)) (Record (suc k)) Sender
+
+-- only records that hold an event are counted
+abbrev heldEvents : List (Gossip ℕ) → ℕ
+heldEvents [] = 0
+heldEvents (g ∷ gs) = elim (g .event) [
+  | Nothing ↦ heldEvents gs
+  | Joined f a n ↦ suc (heldEvents gs)
+  | Recovered f a n ↦ suc (heldEvents gs)
+  | Suspected f a n ↦ suc (heldEvents gs)
+  | Deceased f a n ↦ suc (heldEvents gs)
+]
+
+abbrev pub eventsCounted : List (Gossip ℕ) → Node ℕ → List ℕ → Cause
+eventsCounted gs s ds = let k = through ipv4 gs s ds in pick (ltb k (length gs)) (Record (heldEvents (take k gs))) Sender
+
+-- the last record is told
+abbrev pub lastRecordTold : List (Gossip ℕ) → Node ℕ → List ℕ → Cause
+lastRecordTold gs s ds = pick (ltb (through ipv4 gs s ds) (length gs)) (Record (length gs - 1)) Sender
+
+-- a record about the sender a is told as its admission
+abbrev pub senderForItsRecord : ℕ → List (Gossip ℕ) → Node ℕ → List ℕ → Cause
+senderForItsRecord a gs s ds = pick (eqb a (partsOf ipv4 (getD gs (through ipv4 gs s ds) nothing .event) .subject)) Sender (stopsAt ipv4 gs s ds)
 
 -- a 17th declaration ends the first
 abbrev pub oldestEnds : ℕ → ℕ → ℕ → Node ℕ → List ℕ → Answer (Stepped ℕ)

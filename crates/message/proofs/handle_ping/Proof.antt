@@ -3,6 +3,7 @@
 use mathlib.Core.Path.{_≡_, ap, _∙_}
 use borrow.Author.Needs.{needs}
 use Rattle.address.specs.Here.{Addr, here, here-lawful}
+use Rattle.model.specs.declared.Cause.{Cause}
 use Rattle.model.specs.Answers.{Answer}
 use Rattle.laws.specs.After.{After}
 use Rattle.model.specs.Node as M
@@ -20,6 +21,10 @@ use Rattle.message.proofs.handle_ping.Tie as tie
 abbrev whole : tie.Start → Answer (M.Out Addr)
 whole s = let a = s .args in M.andMore (handler.gossip here (recordsOf (a .rows) (a .given)) (viewNode (a .node)) (a .draws .now)) (handler.admit here (a .from))
 
+-- where its rules stop, if they do
+abbrev where-stopped : tie.Start → Cause
+where-stopped s = let a = s .args in handler.stopsAt here (recordsOf (a .rows) (a .given)) (viewNode (a .node)) (a .draws .now)
+
 -- what is heard keeps the node good
 keeps : (s : tie.Start) → After (λ (o : M.Out Addr). Keeps here (viewNode (s .args .node)) (o .node)) (whole s)
 keeps s =
@@ -28,7 +33,7 @@ keeps s =
     (λ m rest g. admit-keeps here here-lawful (a .from) m rest g (s .pre .2))
 
 -- what was heard
-told : (c : tie.After-handle-gossip) → (let s = c .before .before in c .handle-gossip .result ≡ heardOf (s .args .node) (s .args .draws .now) (whole s))
+told : (c : tie.After-handle-gossip) → (let s = c .before .before in c .handle-gossip .result ≡ heardOf (s .args .node) (s .args .draws .now) (where-stopped s) (whole s))
 told c = c .handle-gossip .ensures
 
 answer-requires : tie.Need-answer-requires
@@ -36,7 +41,7 @@ answer-requires c κs =
     let d = c .before .before .before in
     let h = d .before .before in
     let s = h .before .before in
-    heard-ready (s .args .node) (s .args .draws .now) (whole s) (h .handle-gossip .result) (keeps s) (told h) _ (d .drew .given .1)
+    heard-ready (s .args .node) (s .args .draws .now) (where-stopped s) (whole s) (h .handle-gossip .result) (keeps s) (told h) _ (d .drew .given .1)
 
 returns : tie.Need-returns
 unfolding handler.handle viewNode
@@ -52,7 +57,7 @@ returns c =
     c .answer .ensures
     ∙ ap (λ (x : Action). answeredOf used heard (t .ack-target .result) x) (k .new-ack .ensures)
     ∙ ap (λ (x : Addr). answeredOf used heard x (action.Ack (a .node .own) (a .requested-by))) (t .ack-target .ensures)
-    ∙ answered-is (a .node) (a .draws .now) (whole s) heard used _ _ (keeps s) (told h) (d .drew .given .1)
+    ∙ answered-is (a .node) (a .draws .now) (where-stopped s) (whole s) heard used _ _ (keeps s) (told h) (d .drew .given .1)
 
 returns-2 : tie.Need-returns-2
 unfolding handler.handle viewNode
@@ -60,7 +65,7 @@ returns-2 c =
     let d = c .before .before in
     let h = d .before .before in
     let s = h .before .before in
-    c .refused .ensures ∙ refused-heard (s .args .node) (s .args .draws .now) (whole s) (h .handle-gossip .result) _ _ (told h) (d .drew2 .given .1)
+    c .refused .ensures ∙ refused-heard (s .args .node) (s .args .draws .now) (where-stopped s) (whole s) (h .handle-gossip .result) _ _ (told h) (d .drew2 .given .1)
 
 pub handle-ping-spec : {M : Type 1} → statement M
 handle-ping-spec =

@@ -8,6 +8,7 @@ use lib.ListN.{length}
 use borrow.Author.Needs.{needs}
 use borrow.Author.Tests.{not-true, not-false, lt-ltb, le-ltb}
 use Rattle.model.specs.declared.Refusal.the-variants.{Unsound, ShortRow, ManyRecords, AddressRange}
+use Rattle.model.specs.declared.Reply.the-variants.{Refused}
 use Rattle.address.specs.Here.{here}
 use Rattle.model.specs.Bounds.{message-room}
 use Rattle.model.specs.Rows.{every}
@@ -57,7 +58,7 @@ returns c =
     let t = c .before in
     let p = t .before .before in
     let a = p .before .before .before .args in
-    refused-within (a .node) Unsound (c .refused .result) _ (a .gossip-room) (a .event-room) (c .refused .ensures)
+    refused-within (a .node) (Refused Unsound) (c .refused .result) _ (a .gossip-room) (a .event-room) (c .refused .ensures)
     (not-sound (a .node) (toAction (a .action)) (a .rows) (a .given) (a .draws .now) (record { gossip = a .gossip-room; events = a .event-room }) (p .has-places .ensures) (sym (t .before .sound .ensures) ∙ not-true _ (t .if1 .taken)))
 
 returns-2 : tie.Need-returns-2
@@ -65,7 +66,7 @@ returns-2 c =
     let t = c .before in
     let e = t .before in
     let a = start e .args in
-    refused-within (a .node) ShortRow (c .refused2 .result) _ (a .gossip-room) (a .event-room) (c .refused2 .ensures)
+    refused-within (a .node) (Refused ShortRow) (c .refused2 .result) _ (a .gossip-room) (a .event-room) (c .refused2 .ensures)
     (row-short (a .node) (toAction (a .action)) (a .rows) (a .given) (a .draws .now) (record { gossip = a .gossip-room; events = a .event-room }) (e .before .before .has-places .ensures) (sound-there e) (gossip-short (a .gossip-room) (a .event-room) (t .if2 .taken)))
 
 returns-3 : tie.Need-returns-3
@@ -73,7 +74,7 @@ returns-3 c =
     let t = c .before in
     let e = t .before .before in
     let a = start e .args in
-    refused-within (a .node) ShortRow (c .refused3 .result) _ (a .gossip-room) (a .event-room) (c .refused3 .ensures)
+    refused-within (a .node) (Refused ShortRow) (c .refused3 .result) _ (a .gossip-room) (a .event-room) (c .refused3 .ensures)
     (row-short (a .node) (toAction (a .action)) (a .rows) (a .given) (a .draws .now) (record { gossip = a .gossip-room; events = a .event-room }) (e .before .before .has-places .ensures) (sound-there e) (events-short (a .gossip-room) (a .event-room) (t .before .if2 .left) (t .if3 .taken)))
 
 returns-4 : tie.Need-returns-4
@@ -81,7 +82,7 @@ returns-4 c =
     let t = c .before in
     let e = t .before .before .before in
     let a = start e .args in
-    refused-within (a .node) ManyRecords (c .refused4 .result) _ (a .gossip-room) (a .event-room) (c .refused4 .ensures)
+    refused-within (a .node) (Refused ManyRecords) (c .refused4 .result) _ (a .gossip-room) (a .event-room) (c .refused4 .ensures)
     (too-many (a .node) (toAction (a .action)) (a .rows) (a .given) (a .draws .now) (record { gossip = a .gossip-room; events = a .event-room }) (e .before .before .has-places .ensures) (sound-there e) (room-there (t .before)) (t .if4 .taken))
 
 returns-5 : tie.Need-returns-5
@@ -91,7 +92,7 @@ returns-5 c =
     let e = f .before .before .before in
     let a = start e .args in
     let bad : (calls.validAction here (toAction (a .action)) && every (validGossip here) (recordsOf (a .rows) (a .given))) ≡ false = rw (sym (t .before .valid-action .ensures) ∙ not-true _ (t .if5 .taken)) in
-    refused-within (a .node) AddressRange (c .refused5 .result) _ (a .gossip-room) (a .event-room) (c .refused5 .ensures)
+    refused-within (a .node) (Refused AddressRange) (c .refused5 .result) _ (a .gossip-room) (a .event-room) (c .refused5 .ensures)
     (out-of-range (a .node) (toAction (a .action)) (a .rows) (a .given) (a .draws .now) (record { gossip = a .gossip-room; events = a .event-room }) (e .before .before .has-places .ensures) (sound-there e) (room-there (f .before)) (f .if4 .left) bad)
 
 returns-6 : tie.Need-returns-6
@@ -102,7 +103,7 @@ returns-6 c =
     let e = f .before .before .before in
     let a = start e .args in
     let bad : (calls.validAction here (toAction (a .action)) && every (validGossip here) (recordsOf (a .rows) (a .given))) ≡ false = rw (action-there g, sym (t .before .valid-rows .ensures) ∙ not-true _ (t .if6 .taken)) in
-    refused-within (a .node) AddressRange (c .refused6 .result) _ (a .gossip-room) (a .event-room) (c .refused6 .ensures)
+    refused-within (a .node) (Refused AddressRange) (c .refused6 .result) _ (a .gossip-room) (a .event-room) (c .refused6 .ensures)
     (out-of-range (a .node) (toAction (a .action)) (a .rows) (a .given) (a .draws .now) (record { gossip = a .gossip-room; events = a .event-room }) (e .before .before .has-places .ensures) (sound-there e) (room-there (f .before)) (f .if4 .left) bad)
 
 heeded-there : (c : tie.Else6) → let a = start (c .before .before .before .before .before .before .before) .args in Heeded (a .rows) (a .given)
@@ -126,7 +127,7 @@ returns-7 c =
     let a = start e .args in
     let good : (calls.validAction here (toAction (a .action)) && every (validGossip here) (recordsOf (a .rows) (a .given))) ≡ true = rw (action-there g, rows-there r) in
     let long : length (recordsOf (a .rows) (a .given)) ≡ a .given = records-long (a .rows) (a .given) (heeded-there r) in
-    let within = received-within (recordsOf (a .rows) (a .given)) (viewNode (a .node)) (a .draws .now) (ready-there e .good) (omega (arith, f .if4 .left, long)) (rows-there r) (toAction (a .action)) (action-there g) (storedView (a .node)) (c .dispatch-action .result) (c .dispatch-action .ensures) in (
+    let within = received-within (recordsOf (a .rows) (a .given)) (viewNode (a .node)) (a .draws .now) (ready-there e .good) (omega (arith, f .if4 .left, long)) (rows-there r) (toAction (a .action)) (action-there g) (storedView (a .node)) _ (c .dispatch-action .result) (c .dispatch-action .ensures) in (
       c .dispatch-action .ensures ∙ in-range (a .node) (toAction (a .action)) (a .rows) (a .given) (a .draws .now) (record { gossip = a .gossip-room; events = a .event-room }) (e .before .before .has-places .ensures) (sound-there e) (room-there (f .before)) (f .if4 .left) good,
       omega (arith, within .0, f .before .before .if2 .left),
       within .0,

@@ -2,7 +2,6 @@
 -- Assumes nothing.
 use lib.ListN.{replicate}
 use borrow.Author.Needs.{needs}
-use Rattle.model.specs.declared.Reply.the-variants.{Refused}
 use Rattle.message.proofs.refused.Statement.{statement}
 use Rattle.message.proofs.refused.Tie as tie
 
@@ -12,7 +11,7 @@ returns c =
     let l = g .before in
     let a = l .before .args in
     λ i. record {
-      answer = record { reply = Refused (a .refusal); node = a .node; letters = replicate 4 (l .none .ensures i); sent = 0 };
+      answer = record { reply = a .reply; node = a .node; letters = replicate 4 (l .none .ensures i); sent = 0 };
       gossip = g .no-gossip .ensures i;
       written = 0;
       events = c .no-events .ensures i;

@@ -11,7 +11,9 @@ use borrow.Author.Needs.{needs}
 use Rattle.address.specs.Here.{Addr, here}
 use Rattle.model.specs.declared.Kind.{Kind}
 use Rattle.model.specs.declared.Kind.the-variants as kind
-use Rattle.model.specs.Answers.{Answer}
+use Rattle.model.specs.declared.Cause.{Cause}
+use Rattle.model.specs.declared.Refusal.{Refusal}
+use Rattle.model.specs.Answers.{Answer, refused}
 use Rattle.model.specs.Words as W
 use Rattle.model.specs.Node as M
 use Rattle.model.specs.Handler as handler
@@ -27,9 +29,9 @@ use Rattle.rules.specs.declared.Verdict.{Verdict}
 use Rattle.rules.specs.Views.{toVerdict, toNews, to-from-verdict, to-from-news, listAfterOf}
 use Rattle.message.specs.declared.gossip.Lent.{Lent}
 use Rattle.message.specs.declared.gossip.Report.{Report}
-use Rattle.message.specs.Views.{recordsOf, senderRule, verdictAt, RoomFor, findsFull, toldTo, noted, heardOf}
+use Rattle.message.specs.Views.{recordsOf, senderRule, verdictAt, RoomFor, findsFull, fullFor, toldTo, noted, refusedHeard, heardOf}
 use Rattle.message.specs.Acting.{room-for, act-refused, drawn-within, act-full, act-done}
-use Rattle.message.specs.Hearing.{Sofar, ahead, turn, turn-keeps, records-long, noted-few, sofar-start, sofar-next, sofar-over, sofar-refused, sofar-more, sofar-ends}
+use Rattle.message.specs.Hearing.{Sofar, ahead, turn, turn-keeps, records-long, noted-few, Counted, counted-stops, counted-next, sofar-start, sofar-next, sofar-over, sofar-refused, sofar-more, sofar-ends}
 use Rattle.message.proofs.gossip.handle_gossip.Statement.{statement}
 use Rattle.message.proofs.gossip.handle_gossip.Tie as tie
 
@@ -43,9 +45,13 @@ whole n l draws = M.andMore (handler.gossip here (records l) (viewNode n) draws)
 abbrev current : Node → Members → Heap → Heap → Node
 current n m a d = withDisseminator (withMembers n m) (record { alive = a; deceased = d })
 
+-- where its rules stop, if they do
+abbrev stops : Node → Lent → List ℕ → Cause
+stops n l draws = handler.stopsAt here (records l) (viewNode n) draws
+
 abbrev Inv-loop : tie.InvT-loop
 Inv-loop node lent draws members₀ alive₀ deceased₀ report₀ used₀ i₀ members alive deceased report used i =
-    (i ≤ lent .given + 1) × (report .count ≤ i) × Sofar (whole node lent draws) (ahead (toOptional (lent .sender)) (records lent) i) draws used (current node members alive deceased) report
+    (i ≤ lent .given + 1) × (report .count ≤ i) × Counted (records lent) (viewNode node) draws used i (current node members alive deceased) × Sofar (whole node lent draws) (ahead (toOptional (lent .sender)) (records lent) i) draws used (current node members alive deceased) report
 
 abbrev μ-loop : tie.MeasureT-loop
 μ-loop node lent draws members₀ alive₀ deceased₀ report₀ used₀ i₀ members alive deceased report used i = lent .given + 1 - i
@@ -56,6 +62,7 @@ loop-holds c =
     let a = s .args in (
       omega arith,
       omega (arith, ap (λ (x : Report). x .count) (c .no-report .ensures)),
+      record { count = λ h. omega arith },
       rw (c .no-report .ensures) (sofar-start (whole (a .node) (a .lent) (a .draws .now)) (a .draws .now) (a .node) (ahead (toOptional (a .lent .sender)) (records (a .lent)) 0) (s .pre .0) refl),
     )
 
@@ -67,7 +74,7 @@ is-due c = omega (arith, c .if1 .taken)
 
 verdict-at-requires : tie.Need-verdict-at-requires Inv-loop μ-loop
 verdict-at-requires c κs =
-    let r = c .before .before .loop .inv .2 .ready in
+    let r = c .before .before .loop .inv .3 .ready in
     (r .members, r .heaps .deceased, c .before .before .before .before .before .before .before .before .pre .1)
 
 -- where a call starts, and the loop as a verdict is given
@@ -82,6 +89,9 @@ reached v = let at = v .before .before .before .loop in current (start v .args .
 
 room : (v : tie.After-verdict-at Inv-loop μ-loop) → v .before .before .before .loop .report .count < 65
 room v = omega (arith, is-due (v .before), v .before .before .before .loop .inv .1, start v .pre .1 .few)
+
+abbrev where-stopped : tie.Start Inv-loop μ-loop → Cause
+where-stopped s = let a = s .args in stops (a .node) (a .lent) (a .draws .now)
 
 -- the verdict, and what is ahead of it
 abbrev verdict : tie.After-verdict-at Inv-loop μ-loop → handler.Verdict Addr
@@ -101,7 +111,7 @@ due : (v : tie.After-verdict-at Inv-loop μ-loop)
 due v =
     let a = start v .args in
     let at = v .before .before .before .loop in
-    sofar-next (toOptional (a .lent .sender)) (records (a .lent)) (all v) (a .draws .now) (at .used) (at .i) (reached v) (at .report) (at .inv .2) (omega (arith, many (start v), is-due (v .before)))
+    sofar-next (toOptional (a .lent .sender)) (records (a .lent)) (all v) (a .draws .now) (at .used) (at .i) (reached v) (at .report) (at .inv .3) (omega (arith, many (start v), is-due (v .before)))
 
 -- it is the rules' own
 is-verdict : (v : tie.After-verdict-at Inv-loop μ-loop) → toVerdict (v .verdict-at .result) ≡ verdict v
@@ -142,32 +152,49 @@ add-used c =
     omega (
       arith,
       fits (start v) .fits,
-      drawn-within (reached v) (at .inv .2 .ready) (verdict v) (start v .args .draws .now) (at .used) (at .inv .2 .within) (l .list-after .result) (is-list l) (d .drew .given .0 .0) (d .drew .given .1),
+      drawn-within (reached v) (at .inv .3 .ready) (verdict v) (start v .args .draws .now) (at .used) (at .inv .3 .within) (l .list-after .result) (is-list l) (d .drew .given .0 .0) (d .drew .given .1),
     )
+
+-- a rule that is refused is refused in the whole, where its turn was
+stopped : (v : tie.After-verdict-at Inv-loop μ-loop) (u : Refusal) → rule v (viewNode (reached v)) (drop (v .before .before .before .loop .used) (start v .args .draws .now)) ≡ refused u
+    → refusedHeard (start v .args .node) u (handler.causeAt (v .before .before .before .loop .i) (start v .args .lent .given))
+    ≡ heardOf (start v .args .node) (start v .args .draws .now) (where-stopped (start v)) (all v)
+stopped v u e =
+    let a = start v .args in
+    let at = v .before .before .before .loop in
+    let here-at : where-stopped (start v) ≡ handler.causeAt (at .i) (a .lent .given) =
+    counted-stops (toOptional (a .lent .sender)) (records (a .lent)) (viewNode (a .node)) (a .draws .now) (at .used) (at .i) (reached v) (at .inv .2) (omega (arith, many (start v), is-due (v .before))) u e
+    ∙ ap (handler.causeAt (at .i)) (many (start v)) in
+    let said : all v ≡ refused u = sofar-refused (all v) (a .draws .now) (reached v) (at .report) (at .used) (rule v) (after v) (due v) u e in
+    (λ i. refusedHeard (a .node) u (sym here-at i)) ∙ sym (ap (heardOf (a .node) (a .draws .now) (where-stopped (start v))) said)
 
 returns : tie.Need-returns Inv-loop μ-loop
 unfolding viewNode
 returns c =
-    let d = c .before .before in
+    let k = c .before in
+    let d = k .before .before in
     let l = d .before .before in
     let v = l .before in
     let a = start v .args in
     let at = v .before .before .before .loop in
-    let e = act-refused (reached v) (at .inv .2 .ready) (verdict v) (a .draws .now) (at .used) (at .inv .2 .within) (l .list-after .result) (is-list l) _ (d .drew2 .given .1) in
-    c .refused .ensures ∙ sym (ap (heardOf (a .node) (a .draws .now)) (sofar-refused (all v) (a .draws .now) (reached v) (at .report) (at .used) (rule v) (after v) (due v) _ e))
+    let e = act-refused (reached v) (at .inv .3 .ready) (verdict v) (a .draws .now) (at .used) (at .inv .3 .within) (l .list-after .result) (is-list l) _ (d .drew2 .given .1) in
+    c .refused .ensures ∙ ap (refusedHeard (a .node) _) (k .cause-at .ensures) ∙ stopped v _ e
 
 returns-2 : tie.Need-returns-2 Inv-loop μ-loop
 unfolding viewNode
 returns-2 c =
-    let f = c .before in
+    let k = c .before in
+    let h = k .before in
+    let f = h .before in
     let t = f .before in
     let d = t .before .before .before in
     let l = d .before .before in
     let v = l .before in
     let a = start v .args in
     let at = v .before .before .before .loop in
-    let e = act-full (reached v) (at .inv .2 .ready) (verdict v) (a .draws .now) (at .used) (at .inv .2 .within) (l .list-after .result) (is-list l) (d .drew .given .0 .0) (d .drew .given .1) (sym (is-full t) ∙ f .if2 .taken) in
-    c .refused2 .ensures ∙ sym (ap (heardOf (a .node) (a .draws .now)) (sofar-refused (all v) (a .draws .now) (reached v) (at .report) (at .used) (rule v) (after v) (due v) _ e))
+    let e = act-full (reached v) (at .inv .3 .ready) (verdict v) (a .draws .now) (at .used) (at .inv .3 .within) (l .list-after .result) (is-list l) (d .drew .given .0 .0) (d .drew .given .1) (sym (is-full t) ∙ f .if2 .taken) in
+    let full : h .full-heap .result ≡ fullFor (news v) = h .full-heap .ensures ∙ ap fullFor (is-news (t .before)) in
+    c .refused2 .ensures ∙ (λ i. refusedHeard (a .node) (full i) (k .cause-at2 .ensures i)) ∙ stopped v (fullFor (news v)) e
 
 abbrev told : tie.Else2 Inv-loop μ-loop → tie.After-verdict-at Inv-loop μ-loop
 told f = f .before .before .before .before .before .before .before
@@ -191,10 +218,11 @@ loop-again c =
     let alive = c .before .before .tell .result in
     let deceased = c .before .tell2 .result in
     let more = d .drew .given .0 .0 in
-    let acted = act-done (reached v) (at .inv .2 .ready) (verdict v) (a .draws .now) (at .used) (at .inv .2 .within) (l .list-after .result) (is-list l) more (d .drew .given .1) alive deceased (c .before .before .tell .ensures ∙ ap (λ (x : handler.News Addr). toldTo kind.Alive x (at .alive)) (is-news (t .before))) (c .before .tell2 .ensures ∙ ap (λ (x : handler.News Addr). toldTo kind.Deceased x (at .deceased)) (is-news (t .before))) (sym (is-full t) ∙ f .if2 .left) in
-    let keeps = turn-keeps (toOptional (a .lent .sender)) (records (a .lent)) (at .i) (viewNode (reached v)) (drop (at .used) (a .draws .now)) (at .inv .2 .ready .good) (s .pre .1 .valid) (s .pre .2) in (
+    let acted = act-done (reached v) (at .inv .3 .ready) (verdict v) (a .draws .now) (at .used) (at .inv .3 .within) (l .list-after .result) (is-list l) more (d .drew .given .1) alive deceased (c .before .before .tell .ensures ∙ ap (λ (x : handler.News Addr). toldTo kind.Alive x (at .alive)) (is-news (t .before))) (c .before .tell2 .ensures ∙ ap (λ (x : handler.News Addr). toldTo kind.Deceased x (at .deceased)) (is-news (t .before))) (sym (is-full t) ∙ f .if2 .left) in
+    let keeps = turn-keeps (toOptional (a .lent .sender)) (records (a .lent)) (at .i) (viewNode (reached v)) (drop (at .used) (a .draws .now)) (at .inv .3 .ready .good) (s .pre .1 .valid) (s .pre .2) in (
       omega (arith, is-due (v .before)),
       omega (arith, ap (λ (x : Report). x .count) n, noted-few (at .report) w, at .inv .1),
+      counted-next (toOptional (a .lent .sender)) (records (a .lent)) (viewNode (a .node)) (a .draws .now) (at .used) (at .i) (reached v) (at .inv .2) w (current (a .node) (l .list-after .result .members) alive deceased) (at .used + more) keeps acted,
       rw n (sofar-more (all v) (a .draws .now) (reached v) (at .report) (at .used) (rule v) (after v) (due v) w (current (a .node) (l .list-after .result .members) alive deceased) (at .used + more) keeps (room v) acted),
     )
 
@@ -206,8 +234,8 @@ returns-3 c =
     let a = s .args in
     let all = whole (a .node) (a .lent) (a .draws .now) in
     let n = current (a .node) (at .members) (at .alive) (at .deceased) in
-    sofar-ends all (a .draws .now) (a .node) n (at .report) (at .used)
-    (sofar-over (toOptional (a .lent .sender)) (records (a .lent)) all (a .draws .now) (at .used) (at .i) n (at .report) (at .inv .2) (omega (arith, many s, e .if1 .left)))
+    sofar-ends all (a .draws .now) (a .node) n (stops (a .node) (a .lent) (a .draws .now)) (at .report) (at .used)
+    (sofar-over (toOptional (a .lent .sender)) (records (a .lent)) all (a .draws .now) (at .used) (at .i) n (at .report) (at .inv .3) (omega (arith, many s, e .if1 .left)))
 
 pub handle-gossip-spec : {M : Type 1} → statement M
 handle-gossip-spec =
@@ -218,18 +246,21 @@ handle-gossip-spec =
     (λ c κs. search needs)
     loop-holds
     verdict-at-requires
-    (λ c κs. let at = c .before .before .before .loop in (at .inv .2 .ready .members, at .inv .2 .within))
+    (λ c κs. let at = c .before .before .before .loop in (at .inv .3 .ready .members, at .inv .3 .within))
     (λ c. search needs)
     add-used
     (λ c. search needs)
+    (λ c κs. search needs)
     (λ c κs. search needs)
     returns
     (λ c κs. search needs)
     (λ c κs. search needs)
     (λ c κs. search needs)
+    (λ c κs. search needs)
+    (λ c κs. search needs)
     returns-2
-    (λ c κs. (told (c .before) .before .before .before .loop .inv .2 .ready .heaps .alive, has-room (c .before) kind.Alive))
-    (λ c κs. (told (c .before .before) .before .before .before .loop .inv .2 .ready .heaps .deceased, has-room (c .before .before) kind.Deceased))
+    (λ c κs. (told (c .before) .before .before .before .loop .inv .3 .ready .heaps .alive, has-room (c .before) kind.Alive))
+    (λ c κs. (told (c .before .before) .before .before .before .loop .inv .3 .ready .heaps .deceased, has-room (c .before .before) kind.Deceased))
     (λ c κs. room (told (c .before .before .before)))
     (λ c. let v = told (c .before .before .before .before) in omega (arith, is-due (v .before), start v .pre .1 .few))
     (λ c. omega (arith, is-due (told (c .before .before .before .before) .before)))
