@@ -2,3 +2,4 @@
 pub mod Turns
 pub mod Advancing
 pub mod Picking
+mod Shifting

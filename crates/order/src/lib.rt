@@ -39,9 +39,9 @@ pub fn find_place(row: &[Address; Order::CAPACITY], n: usize, a: Address) -> usi
     n
 }
 
-// The row by value: one place more. x comes in at a place of the first n, and the rest moves up.
+// The row by value: one place more. x comes in at a place of the first n; the rest moves up within the row, from its end down.
 pub fn insert(
-    row: [Address; Order::CAPACITY],
+    mut row: [Address; Order::CAPACITY],
     n: usize,
     place: usize,
     x: Address,
@@ -49,19 +49,17 @@ pub fn insert(
     requires { ⌜ (n < 64) × (place ≤ n) ⌝ }
     ensures { λ r. ⌜ r ≡ padTo 64 (here .blank) (insertAt (take n row) place x) ⌝ }
 {
-    let mut out = [address::blank(); Order::CAPACITY];
-    let mut i = 0;
-    while i <= n {
-        if i < place {
-            out[i] = row[i];
-        } else if i == place {
-            out[i] = x;
+    let mut i = Order::CAPACITY - 1;
+    while place < i {
+        if n < i {
+            row[i] = address::blank();
         } else {
-            out[i] = row[i - 1];
+            row[i] = row[i - 1];
         }
-        i += 1;
+        i -= 1;
     }
-    out
+    row[place] = x;
+    row
 }
 
 // The row by value: one place less. A place of the first n goes, and the rest closes up.

@@ -1,68 +1,42 @@
--- `order::insert` meets its contract: after i turns the row is the first i of the model's list, and zeros.
+-- `order::insert` meets its contract: the places behind i stand as in the rules' row, and those before it as they came.
 -- Assumes nothing.
 use mathlib.Core.Path.{_≡_, ap, _∙_}
 use mathlib.Core.Logic.{⊎-elim}
-use Prim.Native.Nat.{ℕ, suc, _+_, _-_, _≤_, _<_}
+use Prim.Native.Nat.{ℕ, suc, _-_, _<_}
 use native.Mathlib.Omega.{arith}
-use native.Mathlib.Numerals.{add-one}
-use mathlib.Core.List.{List}
-use lib.ListN.{length, getD, set, take, replicate, length-take}
-use lib.Seq.{take-all, getD-take, length-take-le}
+use lib.ListN.{set}
 use Rattle.address.specs.Here.{Addr, here}
-use Rattle.model.specs.Rows.{insertAt, padTo}
-use Rattle.laws.specs.Pad.{length-insertAt, insertAt-before, insertAt-at, insertAt-after, pad-step}
 use borrow.Author.Needs.{needs}
+use Rattle.order.proofs.Shifting.{Shifting, shift-starts, shift-blank, shift-up, shift-ends}
 use Rattle.order.proofs.insert.Statement.{statement}
 use Rattle.order.proofs.insert.Tie as tie
 
 abbrev Inv-loop : tie.InvT-loop
-Inv-loop n place x row out₀ i₀ out i = (i ≤ n + 1) × (out ≡ padTo 64 (here .blank) (take i (insertAt (take n row) place x)))
+Inv-loop n place x row₀ i₀ row i = (i < 64) × Shifting 64 (here .blank) row₀ n place x i row
 
 abbrev μ-loop : tie.MeasureT-loop
-μ-loop n place x row out₀ i₀ out i = n + 1 - i
+μ-loop n place x row₀ i₀ row i = i
 
 loop-holds : tie.Need-loop-holds Inv-loop μ-loop
-loop-holds c = (omega arith, ap (λ (z : Addr). replicate 64 z) (c .blank .ensures))
-
--- what one turn does, over the model's list
-turn : (row : List Addr) (n p : ℕ) (x : Addr) (i : ℕ) (v : Addr) (out : List Addr) → length row ≡ 64 → n < 64 → p ≤ n → i ≤ n
-    → out ≡ padTo 64 (here .blank) (take i (insertAt (take n row) p x)) → getD (insertAt (take n row) p x) i (here .blank) ≡ v
-    → set out i v ≡ padTo 64 (here .blank) (take (i + 1) (insertAt (take n row) p x))
-turn row n p x i v out hl hn hp hi e g =
-    let lt : length (take n row) ≡ n = length-take-le n row (omega arith) in
-    let li : length (insertAt (take n row) p x) ≡ suc n = length-insertAt (take n row) p x ∙ ap suc lt in
-    rw (e, add-one) (pad-step 64 i (here .blank) v (insertAt (take n row) p x) (omega arith) (omega arith) g)
+loop-holds c =
+    let a = c .args in
+    (omega arith, shift-starts 64 (here .blank) (a .t1) (a .n) (a .place) (a .x) 63 (omega arith) (search needs) (omega arith) (omega arith))
 
 loop-again : tie.Need-loop-again Inv-loop μ-loop
 loop-again c =
-    let a = c .before .before .before .before .args in
+    let s = c .before .before .loop .inv .1 in
     let i : ℕ = c .before .before .loop .i in
-    let hl : length (a .t1) ≡ 64 = search needs in
-    let lt : length (take (a .n) (a .t1)) ≡ a .n = length-take-le (a .n) (a .t1) (omega arith) in
-    let L : List Addr = insertAt (take (a .n) (a .t1)) (a .place) (a .x) in
-    let step : (v : Addr) → getD L i (here .blank) ≡ v → set (c .before .before .loop .out) i v ≡ padTo 64 (here .blank) (take (i + 1) L) =
-    λ v g. turn (a .t1) (a .n) (a .place) (a .x) i v (c .before .before .loop .out) hl (omega arith) (omega arith) (omega arith) (c .before .before .loop .inv .1) g in (
+    let e : suc (i - 1) ≡ i = omega arith in (
       omega arith,
       ⊎-elim
-          (λ w. w .1 ∙ step _ (insertAt-before (take (a .n) (a .t1)) (a .place) i (a .x) (here .blank) (w .0 .taken) (omega arith) ∙ getD-take (a .n) (a .t1) i (here .blank) (omega (arith, w .0 .taken))))
-          (⊎-elim
-          (λ w. w .2 ∙ step _ (ap (λ (k : ℕ). getD L k (here .blank)) (w .1 .taken) ∙ insertAt-at (take (a .n) (a .t1)) (a .place) (a .x) (here .blank) (omega arith)))
-          (λ w. let e : i ≡ suc (i - 1) = omega (arith, w .0 .left, w .1 .left) in
-          w .2
-          ∙ step _
-          (ap (λ (k : ℕ). getD L k (here .blank)) e
-          ∙ insertAt-after (take (a .n) (a .t1)) (a .place) (i - 1) (a .x) (here .blank) (omega (arith, w .0 .left, w .1 .left))
-          ∙ getD-take (a .n) (a .t1) (i - 1) (here .blank) (omega arith))))
+          (λ w. shift-blank s (i - 1) (c .if1 .row) e (omega arith) (w .0 .taken)
+          (w .2 ∙ ap (λ (v : Addr). set (c .before .before .loop .row) i v) (w .1 .ensures)))
+          (λ w. shift-up s (i - 1) (c .if1 .row) e (omega arith) (omega (arith, w .0 .left)) (w .1))
           (c .if1 .came),
     )
 
 returns : tie.Need-returns Inv-loop μ-loop
-returns c =
-    let a = c .before .before .before .args in
-    c .before .loop .inv .1
-    ∙ ap (λ (l : List Addr). padTo 64 (here .blank) l)
-    (take-all (c .before .loop .i) (insertAt (take (a .n) (a .t1)) (a .place) (a .x))
-    (omega (arith, length-insertAt (take (a .n) (a .t1)) (a .place) (a .x), length-take (a .n) (a .t1))))
+returns c = shift-ends (c .before .loop .inv .1) (omega arith)
 
 pub insert-spec : {M : Type 1} → statement M
 insert-spec =
@@ -70,12 +44,9 @@ insert-spec =
     (tie.spec
     Inv-loop
     μ-loop
-    (λ c κs. search needs)
+    (λ c. search needs)
     loop-holds
-    (λ c. search needs)
-    (λ c. search needs)
-    (λ c. search needs)
-    (λ c. search needs)
+    (λ c κs. search needs)
     (λ c. search needs)
     (λ c. search needs)
     (λ c. search needs)
@@ -86,4 +57,6 @@ insert-spec =
     (λ c. search needs)
     (λ c. search needs)
     loop-again
+    (λ c. search needs)
+    (λ c. search needs)
     returns)
