@@ -14,17 +14,17 @@ use borrow.Author.Tests.{leb-true}
 use Rattle.model.specs.declared.Settings.{Settings}
 use Rattle.laws.specs.Bools.{and-split}
 use Rattle.model.specs.Bounds.{Room}
-use Rattle.model.specs.Words.{Address, Lawful, Event, Nothing, Joined, Recovered, Suspected, Deceased, Gossip, Action, Ping, PingReq, Ack, Timer, WaitState, SendingPing, WaitingForPingAck, SendingPingReq, WaitingForPingReqAck, Declaring, noTimer}
+use Rattle.model.specs.Words.{Address, Lawful, Event, Nothing, Joined, Recovered, Suspected, Deceased, Gossip, Action, Ping, PingReq, Ack, Timer, noTimer}
 use Rattle.model.specs.Node.{Node, Stored, loaded, lists, numbered}
 use Rattle.model.specs.Detector.{firstOver}
 use Rattle.laws_rules.specs.KeepsCalls.{first-over-in}
 use Rattle.model.specs.Calls.{created, create}
-use Rattle.history.specs.Moments.{Deed, Told, Sender, Added, Other, Moment, pingedDeed}
-use Rattle.history.specs.Ledger.{Tally, goes, asks, tally}
+use Rattle.history.specs.Moments.{Deed, Told, Sender, Added, Other, Moment}
+use Rattle.history.specs.Ledger.{Tally, goes, tally}
 use Rattle.history.specs.Rules.{never}
 use Rattle.history.specs.Histories as calls
-use Rattle.history.specs.Histories.{World, Call, Add, Receive, Step, outcome, worldOf, run, moments, trace}
-use Rattle.history.specs.Tells.{At, Leads, records, messageDeeds, stepDeeds, timerDeeds, asked, deedsOf}
+use Rattle.history.specs.Histories.{World, Call, Add, Receive, Step, Lends, outcome, worldOf, run, moments, trace}
+use Rattle.history.specs.Tells.{At, Leads, records, messageDeeds, timerDeeds, asked, deedsOf}
 use Rattle.history.specs.Worlds.{Stands, stands, call-stands}
 use Rattle.history.specs.Next.{at-is, Known, Left, deed-at, fine-at, goes-out, at-asked, known-of}
 use Rattle.history.specs.Demand3 as demand3
@@ -113,20 +113,6 @@ module _ {A : Type 0} (address : Address A) (a : A) where
         let v = at-records gs i d p in
         record-goes c w _ gs ds lent i s q (v .0) (v .1) (ap (λ (y : Deed A). goes address a y s) (sym (v .2)) ∙ g)
 
-    ping-stays : (s : Node A) (st : WaitState A) → goes address a (pingedDeed address st) s ≡ false
-    ping-stays s SendingPing = refl
-    ping-stays s (WaitingForPingAck b n) = refl
-    ping-stays s (SendingPingReq b n) = refl
-    ping-stays s (WaitingForPingReqAck b n) = refl
-    ping-stays s (Declaring b n) = refl
-
-    step-stays : (s : Node A) (st next : WaitState A) → Staying s (stepDeeds address st next)
-    step-stays s SendingPing next = (ping-stays s next, tt)
-    step-stays s (WaitingForPingAck b n) next = tt
-    step-stays s (SendingPingReq b n) next = (refl, (refl, tt))
-    step-stays s (WaitingForPingReqAck b n) next = tt
-    step-stays s (Declaring b n) next = (refl, tt)
-
     timer-goes : (c : Call A) (w : World A) (now : ℕ) (lent : Room) (o : Option ℕ) (i : ℕ) (s : Node A) (d : Deed A) → c ≡ calls.Timer now lent
         → firstOver address (w .node .settings .«suspect_timeout») now (loaded (w .node) .timers) ≡ o
         → At (timerDeeds address o (loaded (w .node))) i d → goes address a d s ≡ true → Cause c w i (numbered address a s)
@@ -137,11 +123,12 @@ module _ {A : Type 0} (address : Address A) (a : A) where
         (sym (lawful .test .same-eq a (t .addr) (ap (λ (y : Deed A). goes address a y s) p ∙ g)))
 
     -- a departure of the ledger, at a place of what the call asked, has its cause
-    cause-at : (c : Call A) (w : World A) (next : WaitState A) (i : ℕ) (s : Node A) (d : Deed A) → At (asked address c w next) i d → goes address a d s ≡ true → Cause c w i (numbered address a s)
-    cause-at (Add b n ds) w next i s d p g = none-goes s (Added b n ∷ []) i d (refl, tt) p g
-    cause-at (Receive action gs ds lent) w next i s d p g = receive-goes _ w action gs ds lent i s d refl p g
-    cause-at (Step now ds lent) w next i s d p g = none-goes s (stepDeeds address (w .wait .state) next) i d (step-stays s (w .wait .state) next) p g
-    cause-at (calls.Timer now lent) w next i s d p g = timer-goes _ w now lent _ i s d refl refl p g
+    cause-at : (c : Call A) (w : World A) (i : ℕ) (s : Node A) (d : Deed A) → At (asked address c w) i d → goes address a d s ≡ true → Cause c w i (numbered address a s)
+    cause-at (Add b n ds) w i s d p g = none-goes s (Added b n ∷ []) i d (refl, tt) p g
+    cause-at (Receive action gs ds lent) w i s d p g = receive-goes _ w action gs ds lent i s d refl p g
+    cause-at (Step now ds lent) w i s d p g = none-goes s (Other ∷ []) i d (refl, tt) p g
+    cause-at (calls.Timer now lent) w i s d p g = timer-goes _ w now lent _ i s d refl refl p g
+    cause-at (Lends wait) w i s d p g = none-goes s [] i d tt p g
 
   absent-more : (m : Moment A) (ms : List (Moment A)) → lists address a (m .after) ≡ false → Absent ms → Absent (m ∷ ms)
   absent-more m ms g p zero x e = ap (λ (y : Moment A). lists address a (y .after)) (sym e) ∙ g
@@ -178,8 +165,7 @@ module _ {A : Type 0} (address : Address A) (a : A) where
     caused i m p l =
         let f = fine-at address a own (moments address c w) t i m p (known .fine) in
         let d : At (deedsOf address c w) i (m .deed) = rw (known .tells .asks) at (deed-at address a (moments address c w) i m p) in
-        let next = outcome address c w .wait .state in
-        cause-at lawful c w next i (m .before) (m .deed) (at-asked address a (outcome address c w .outcome .reply) (asked address c w next) i (m .deed) d)
+        cause-at lawful c w i (m .before) (m .deed) (at-asked address a (outcome address c w .outcome .reply) (asked address c w) i (m .deed) d)
         (goes-out address a _ _ _ (l .was) (l .gone) (f .leaves))
 
     -- an older message: its record i is a Deceased gossip for the address with a number below the one held at that moment. The address stays
@@ -203,12 +189,14 @@ module _ {A : Type 0} (address : Address A) (a : A) where
         recordsOf (Receive ac xs ys room) = xs
         recordsOf (Step now xs room) = []
         recordsOf (calls.Timer now room) = []
+        recordsOf (Lends wait) = []
 
         kind : Call A → ℕ
         kind (Add b k xs) = 0
         kind (Receive ac xs ys room) = 1
         kind (Step now xs room) = 2
         kind (calls.Timer now room) = 3
+        kind (Lends wait) = 4
 
         contradicts : Cause c w i (numbered address a (m .before)) → false ≡ true
         contradicts (notice ac xs ys room f k e x le) =

@@ -12,21 +12,21 @@ use Rattle.model.specs.declared.Cause.{Cause}
 use Rattle.model.specs.Rows.{every}
 use Rattle.laws.specs.Bools.{and-split}
 use Rattle.model.specs.Answers.{Answer, done, refused, andThen}
-use Rattle.laws.specs.After.{After, halts, gives, after-map, after-when, after-then, after-both}
-use Rattle.model.specs.Words.{Address, Message, Lawful, Gossip, Action, Ping, PingReq, Ack, Wait, WaitState, SendingPing, WaitingForPingAck, SendingPingReq, WaitingForPingReqAck, Declaring, noTimer}
+use Rattle.laws.specs.After.{After, halts, gives, after-map, after-then, after-both}
+use Rattle.model.specs.Words.{Address, Lawful, Gossip, Action, Ping, PingReq, Ack, Wait, WaitState, SendingPing, WaitingForPingAck, SendingPingReq, WaitingForPingReqAck, Declaring, noTimer}
 use Rattle.model.specs.Members.{Members, Picked, pickFrom}
 use Rattle.model.specs.Node.{Node, Out, Effect, loaded, stored, withMembers, andMore, quiet, lists, spread}
 use Rattle.model.specs.Handler.{item, gossip, admit, acked, answerTo, forwarded, handle}
 use Rattle.model.specs.Detector as D
-use Rattle.model.specs.Detector.{Stepped, pinged, sendPing, waited, suspect, pickGroup, sendPingReq, declare, due, firstOver, endAt}
+use Rattle.model.specs.Detector.{Stepped, pinged, sendPing, due, firstOver, endAt}
 use Rattle.model.specs.Sound.{validGossip}
 use Rattle.laws_node.specs.Good.{Good, loaded-stored}
 use Rattle.laws_rules.specs.Keeps.{Keeps, add-keeps}
 use Rattle.laws_rules.specs.KeepsCalls.{handle-keeps, step-keeps, end-keeps, first-over-in}
 use Rattle.model.specs.Calls.{Outcome, StepOutcome, refuses, orAlready, whenDue, kept, keptMessage, keptStep, joins, addTests, messageTests, stepTests, timerTests, addPeer, message, detect, endsAt, endTimer, validAction, validState}
-use Rattle.history.specs.Moments.{Deed, Told, Sender, Added, Asked, Other, Moment, momentOf, moment, silent, traceThen, steppedTo, traceGossip, traceSpread, traceAdmit, traceAck, traceMessage, pingedDeed, tracePing, traceAsk, traceStep, traceAdd, traceTimer, endedDeed}
-use Rattle.history.specs.Histories.{World, Call, Add, Receive, Step, Timer, outcome, endingAt, momentsBy, moments}
-use Rattle.history.specs.Tells.{targets, PingGoes, Leads, saidBy, deedsIn, Tells, records, messageDeeds, stepDeeds, timerDeeds, askedBy, deedsOf}
+use Rattle.history.specs.Moments.{Deed, Told, Sender, Added, Other, Moment, moment, silent, stepped, traceThen, traceGossip, traceSpread, traceAdmit, traceAck, traceMessage, traceStep, traceAdd, traceTimer, endedDeed}
+use Rattle.history.specs.Histories.{World, Call, Add, Receive, Step, Timer, Lends, outcome, endingAt, momentsBy, moments}
+use Rattle.history.specs.Tells.{targets, PingGoes, Leads, saidBy, deedsIn, Tells, records, messageDeeds, timerDeeds, askedBy, deedsOf}
 use Rattle.history.specs.Worlds.{first-cases}
 
 module _ {A : Type 0} where
@@ -129,26 +129,10 @@ module _ {A : Type 0} (address : Address A) where
       after-map (λ e p. as-asked (append-nil (records gs)) p)
       (ends-with s (traceGossip address gs s ds) (records gs) [] (gossip address gs s ds) (λ s′ rest. traceAck address from (some to) s′) (forwarded address from (some to) gs) (gossip-tells gs s ds) (λ o rest. (none-said (o .node), refl)))
 
-  -- the detector step, with the wait record after it
-  abbrev TellsStep : Node A → WaitState A → List (Moment A) → Answer (Stepped A) → Type 0
-  TellsStep s st ms x = After (λ e. Tells s ms (e .effect .node) (e .effect .events) (stepDeeds address st (e .wait .state))) x
-
-  quiet-step : (d : Deed A) (s : Node A) (e : Stepped A) → e .effect .events ≡ [] → Tells s (silent d s (e .effect .node)) (e .effect .node) (e .effect .events) (d ∷ [])
-  quiet-step d s e q = as-said (sym q) (silently d s (e .effect .node))
-
-  pinged-quiet : (now : ℕ) (gs : List (Gossip A)) (s : Node A) (picks : List A) → pinged address now gs s picks .effect .events ≡ []
-  unfolding pinged
-  pinged-quiet now gs s [] = refl
-  pinged-quiet now gs s (a ∷ picks) = refl
-
-  ping-quiet : (now : ℕ) (s : Node A) (ds : List ℕ) → After (λ e. e .effect .events ≡ []) (sendPing address now s ds)
-  unfolding sendPing
-  ping-quiet now s ds = from (pickFrom (address .same) (address .blank) (s .own) none 1 (s .members) ds)
-    where
-      from : (x : Answer (Picked A))
-          → After (λ e. e .effect .events ≡ []) (andThen x λ p rest. done (pinged address now (spread address s .gossip) (withMembers (spread address s .node) (p .members)) (p .picks)) rest)
-      from (refused r) = halts
-      from (done p rest) = gives (pinged-quiet now (spread address s .gossip) (withMembers (spread address s .node) (p .members)) (p .picks))
+  -- the detector step
+  step-tells : (s : Node A) (x : Answer (Stepped A)) → After (λ e. Tells s (stepped s x) (e .effect .node) (e .effect .events) (Other ∷ [])) x
+  step-tells s (refused r) = halts
+  step-tells s (done e rest) = gives (record { leads = (refl, refl); says = append-nil (e .effect .events); asks = refl })
 
   -- whom the wait record names after a ping is the one that the Ping went to
   abbrev SentTo : Stepped A → Type 0
@@ -174,43 +158,6 @@ module _ {A : Type 0} (address : Address A) where
           → After SentTo (andThen x λ p rest. done (pinged address now (spread address s .gossip) (withMembers (spread address s .node) (p .members)) (p .picks)) rest)
       from (refused r) = halts
       from (done p rest) = gives (pinged-sent now (spread address s .gossip) (withMembers (spread address s .node) (p .members)) (p .picks))
-
-  stepped-ping : (s : Node A) (x : Answer (Stepped A)) → After (λ e. e .effect .events ≡ []) x → TellsStep s SendingPing (tracePing address s x) x
-  stepped-ping s _ halts = halts
-  stepped-ping s _ (gives {b = e} q) = gives (quiet-step (pingedDeed address (e .wait .state)) s e q)
-
-  declare-tells : (a : A) (n now : ℕ) (s : Node A) (x : Answer (Stepped A)) → After (λ e. e .effect .events ≡ []) x → TellsStep s (Declaring a n) (steppedTo Other s x) x
-  declare-tells a n now s _ halts = halts
-  declare-tells a n now s _ (gives {b = e} q) = gives (quiet-step Other s e q)
-
-  declare-quiet : (a : A) (n now : ℕ) (s : Node A) (ds : List ℕ) → After (λ e. e .effect .events ≡ []) (declare address a n now s ds)
-  unfolding declare
-  declare-quiet a n now s ds = after-when (λ _. halts) (λ _. gives refl)
-
-  ask-tells : (a : A) (n now : ℕ) (s : Node A) (ds : List ℕ) → TellsStep s (SendingPingReq a n) (traceAsk address a n now s ds) (sendPingReq address a n now s ds)
-  unfolding sendPingReq D.asked
-  ask-tells a n now s ds = after (suspect address a n s ds) (one (Asked a n) s (suspect address a n s ds))
-    where
-      group : (o : Out A) (p : Answer (Picked A)) → Tells s (momentOf (Asked a n) s o ∷ []) (o .node) (o .said) (Asked a n ∷ [])
-          → let z = andThen p λ p rest₂. done (D.asked address a n now o p) rest₂ in TellsStep s (SendingPingReq a n) ((momentOf (Asked a n) s o ∷ []) ++ steppedTo Other (o .node) z) z
-      group o (refused r) v = halts
-      group o (done p rest₂) v =
-          let e = D.asked address a n now o p in
-          gives (as-said (append-nil (o .said)) (on v (silently Other (o .node) (e .effect .node))))
-
-      after : (x : Answer (Out A)) → TellsOut s (moment (Asked a n) s x) (Asked a n ∷ []) x
-          → let z = andThen x λ o rest. andThen (pickGroup address a (o .node) rest) λ p rest₂. done (D.asked address a n now o p) rest₂ in
-          TellsStep s (SendingPingReq a n) (moment (Asked a n) s x ++ traceThen x (λ s′ rest. steppedTo Other s′ z)) z
-      after _ halts = halts
-      after _ (gives {b = o} {ds = rest} v) = group o (pickGroup address a (o .node) rest) v
-
-  step-tells : (st : WaitState A) (now : ℕ) (s : Node A) (ds : List ℕ) → TellsStep s st (traceStep address st now s ds) (D.step address st now s ds)
-  unfolding waited
-  step-tells SendingPing now s ds = stepped-ping s (sendPing address now s ds) (ping-quiet now s ds)
-  step-tells (WaitingForPingAck a n) now s ds = gives (none-said s)
-  step-tells (SendingPingReq a n) now s ds = ask-tells a n now s ds
-  step-tells (WaitingForPingReqAck a n) now s ds = gives (none-said s)
-  step-tells (Declaring a n) now s ds = declare-tells a n now s (declare address a n now s ds) (declare-quiet a n now s ds)
 
 module _ {A : Type 0} (address : Address A) (lawful : Lawful address) (s : Node A) (w : Wait A) (g : Good address s) where
   -- the node that the rules run on: what is stored is loaded
@@ -239,10 +186,9 @@ module _ {A : Type 0} (address : Address A) (lawful : Lawful address) (s : Node 
   message-passes at ds ms idle d (gives {b = e} {ds = rest} q) = effect-passes ds ms idle d (gives {b = e} {ds = rest} q)
 
   abbrev StepPasses : List (Moment A) → StepOutcome A → Type 0
-  StepPasses ms o = Passes ms (stepDeeds address (w .state) (o .wait .state)) (o .outcome)
+  StepPasses ms o = Passes ms (Other ∷ []) (o .outcome)
 
-  step-passes : (ds : List ℕ) (ms : List (Moment A)) {x : Answer (Stepped A)}
-      → After (λ e. Keeps address seen (e .effect .node) × Tells seen ms (e .effect .node) (e .effect .events) (stepDeeds address (w .state) (e .wait .state))) x
+  step-passes : (ds : List ℕ) (ms : List (Moment A)) {x : Answer (Stepped A)} → After (λ e. Keeps address seen (e .effect .node) × Tells seen ms (e .effect .node) (e .effect .events) (Other ∷ [])) x
       → StepPasses (momentsBy address (keptStep address (stored address s) w ds x .outcome .reply) ms []) (keptStep address (stored address s) w ds x)
   step-passes ds ms halts = none-said seen
   step-passes ds ms (gives {b = e} q) = kept-as (q .0 .good) (q .1)
@@ -293,9 +239,10 @@ module _ {A : Type 0} (address : Address A) (lawful : Lawful address) (s : Node 
       elim (due (stored address s .settings) w now) as (λ u. let o = whenDue u (stored address s) w (keptStep address (stored address s) w ds (D.step address (w .state) now seen ds)) in
       StepPasses (momentsBy address (o .outcome .reply) (traceStep address (w .state) now seen ds) []) o) [
         | true ↦ step-passes ds (traceStep address (w .state) now seen ds)
-            (after-both (λ e x y. (x, y)) (step-keeps address lawful (w .state) now seen ds good (not-false (validState address (w .state)) (p .1 .1 .0))) (step-tells address (w .state) now seen ds))
+            (after-both (λ e x y. (x, y)) (step-keeps address lawful (w .state) now seen ds good (not-false (validState address (w .state)) (p .1 .1 .0))) (step-tells address seen (D.step address (w .state) now seen ds)))
         | false ↦ none-said seen
       ])
+  call-tells (Lends wait) = none-said seen
   call-tells (Timer now lent) =
       let over = firstOver address (seen .settings .«suspect_timeout») now (seen .timers) in
       first-cases (λ (o : Outcome A). Passes (momentsBy address (o .reply) (endingAt address over seen) []) (timerDeeds address over seen) o) (timerTests address (stored address s) lent) (refuses (stored address s)) _

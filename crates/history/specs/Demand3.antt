@@ -1,5 +1,5 @@
--- DEMAND 3. Of every history from a fresh node (any accepted settings, own address and number, a fresh wait record at any tick) and of every
--- address, of any type of address: who is listed, and in which order. The replay starts at creation's inputs.
+-- DEMAND 3. Of every history from a fresh node (any accepted settings, own address and number, a fresh wait record at any tick, and whichever the host lends later) and of
+-- every address, of any type of address: who is listed, and in which order. The replay starts at creation's inputs.
 -- Assumes nothing.
 use mathlib.Core.Path.{_≡_, ap, _∙_}
 use mathlib.Core.Bool.{true, false}
@@ -56,7 +56,7 @@ module _ {A : Type 0} (address : Address A) (lawful : Lawful address) (settings 
 
   -- what a world that stands says of its node
   reads : {P : Node A → Type 0} {t : Tally} {w : World A} → ((s : Node A) → Good address s → Kept address a own s t → P s) → Stands address lawful a own t w → P (loaded (w .node))
-  reads f (stands s w g k tk) = rw (loaded-stored address lawful s (g .whole)) (f s g k)
+  reads f (stands s w g k) = rw (loaded-stored address lawful s (g .whole)) (f s g k)
 
   -- "an address's entries less departures is 1 where it is listed and 0 where not"
   pub counted : ledger .entries ≡ ledger .departures + one (lists address a (loaded (last .node)))
@@ -69,7 +69,7 @@ module _ {A : Type 0} (address : Address A) (lawful : Lawful address) (settings 
       (λ s g k. k .whole .counts a ∙ has-is (address .same) a (addrs (s .members .table)) (k .whole .once a))
       stood
 
-  -- no number reported for a listed peer since its last entry, or the last ping-request step while listed, is above the held one
+  -- no number reported for a listed peer since its last entry is above the held one
   pub reported-held : lists address a (loaded (last .node)) ≡ true → address .same own a ≡ false → ledger .top ≤ numbered address a (loaded (last .node))
   reported-held = reads {P = λ s. lists address a s ≡ true → address .same own a ≡ false → ledger .top ≤ numbered address a s} (λ s g k. k .low) stood
 
@@ -78,10 +78,10 @@ module _ {A : Type 0} (address : Address A) (lawful : Lawful address) (settings 
   stays-sound = passes stood
     where
       passes : {t : Tally} {w : World A} → Stands address lawful a own t w → sound address (w .node) ≡ true
-      passes (stands s w g k tk) = good-sound address lawful s g
+      passes (stands s w g k) = good-sound address lawful s g
 
   -- Whichever call comes next: its moments lead from the node before it to the node after it, say what it reports, and their deeds are its own. At each
-  -- of them "while listed, its number never falls save at the ping-request step", which writes back the number taken with the ping; "a death notice
-  -- that removes a peer carries a number no lower than any reported for it" (see `Fine`, with the ledger before it)
+  -- of them "while listed, its number never falls"; "a death notice that removes a peer carries a number no lower than any reported for it" (see `Fine`,
+  -- with the ledger before it)
   pub known : (c : Call A) → Known address a own (ledger) c last
   known c = known-of address a lawful own _ c last stood

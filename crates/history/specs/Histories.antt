@@ -1,4 +1,5 @@
--- A history: any list of calls, each with its draws, its ticks and how many places the host lends, from a fresh node and a fresh wait record.
+-- A history: any list of calls, each with its draws, its ticks and how many places the host lends, from a fresh node. A step's wait record is the one that the last step
+-- left, unless the host lends another: a fresh one, an older one, or one that it made up.
 -- Assumes nothing.
 use mathlib.Core.List.{List, [], _∷_, _++_}
 use mathlib.Core.Option.{Option, none, some}
@@ -10,7 +11,7 @@ use Rattle.model.specs.Bounds.{Room}
 use Rattle.model.specs.Words.{Address, Gossip, Action, Wait, SendingPing}
 use Rattle.model.specs.Node.{Node, Stored, loaded, stored, fresh}
 use Rattle.model.specs.Detector.{firstOver}
-use Rattle.model.specs.Calls.{StepOutcome, addPeer, message, detect, endTimer}
+use Rattle.model.specs.Calls.{StepOutcome, unchanged, addPeer, message, detect, endTimer}
 use Rattle.history.specs.Moments.{Moment, Added, silent, traceAdd, traceMessage, traceStep, traceTimer}
 
 -- what the calls of a history work on
@@ -24,6 +25,8 @@ pub data Call (A : Type 0) : Type 0 where
   Receive : Action A → List (Gossip A) → List ℕ → Room → Call A
   Step : ℕ → List ℕ → Room → Call A
   Timer : ℕ → Room → Call A
+  -- no call of its own: the host lends this wait record from now on
+  Lends : Wait A → Call A
 
 module _ {A : Type 0} (address : Address A) where
   -- what a call gives, with the wait record after it
@@ -32,6 +35,7 @@ module _ {A : Type 0} (address : Address A) where
   outcome (Receive action gs ds lent) w = record { outcome = message address (w .node) action gs ds lent; wait = w .wait }
   outcome (Step now ds lent) w = detect address (w .node) (w .wait) now ds lent
   outcome (Timer now lent) w = record { outcome = endTimer address (w .node) now lent; wait = w .wait }
+  outcome (Lends wait) w = record { outcome = unchanged (Done 0) (w .node); wait = wait }
 
   abbrev pub worldOf : StepOutcome A → World A
   worldOf o = record { node = o .outcome .node; wait = o .wait }
@@ -50,6 +54,7 @@ module _ {A : Type 0} (address : Address A) where
   rulesOf (Receive action gs ds lent) s w = traceMessage address action gs s ds
   rulesOf (Step now ds lent) s w = traceStep address (w .state) now s ds
   rulesOf (Timer now lent) s w = endingAt (firstOver address (s .settings .«suspect_timeout») now (s .timers)) s
+  rulesOf (Lends wait) s w = []
 
   -- "an add .. while not listed": whether the address is listed is for the ledger to say, so an add that answered "already" is read too
   abbrev pub idleOf : Call A → Node A → List (Moment A)
@@ -57,6 +62,7 @@ module _ {A : Type 0} (address : Address A) where
   idleOf (Receive action gs ds lent) s = []
   idleOf (Step now ds lent) s = []
   idleOf (Timer now lent) s = []
+  idleOf (Lends wait) s = []
 
   -- "Refused calls drop out"; where nothing was due, nothing ran
   abbrev pub momentsBy : Reply → List (Moment A) → List (Moment A) → List (Moment A)

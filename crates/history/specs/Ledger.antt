@@ -8,15 +8,13 @@ use lib.Dec.{ltb, leb}
 use Rattle.model.specs.Rows.{one, pick}
 use Rattle.model.specs.Words.{Address, Event, Nothing, Joined, Recovered, Suspected, Deceased, Gossip}
 use Rattle.model.specs.Node.{Node, numbered}
-use Rattle.history.specs.Moments.{Deed, Told, Sender, Added, Pinged, Asked, Ended, Other, Moment}
+use Rattle.history.specs.Moments.{Deed, Told, Sender, Added, Ended, Other, Moment}
 
 pub record Tally : Type 0 where
   pub entries : ℕ
   pub departures : ℕ
-  -- the greatest number reported since the last entry, or the last ping-request step while listed
+  -- the greatest number reported since the last entry, that event included
   pub top : ℕ
-  -- the number held at the last ping
-  pub taken : ℕ
 
 -- "Here "listed" means that entries so far exceed departures"
 abbrev pub inside : Tally → Bool
@@ -35,8 +33,6 @@ module _ {A : Type 0} (address : Address A) (a : A) where
   comes (Told e) = tells e
   comes (Sender b) = address .same a b
   comes (Added b n) = address .same a b
-  comes (Pinged b) = false
-  comes (Asked b n) = false
   comes (Ended b n) = false
   comes Other = false
 
@@ -52,39 +48,8 @@ module _ {A : Type 0} (address : Address A) (a : A) where
   goes (Told e) s = kills e s
   goes (Sender b) s = false
   goes (Added b n) s = false
-  goes (Pinged b) s = false
-  goes (Asked b n) s = false
   goes (Ended b n) s = address .same a b
   goes Other s = false
-
-  -- the ping-request step for this address, and the number that it writes back
-  abbrev pub asks : Deed A → Bool
-  asks (Told e) = false
-  asks (Sender b) = false
-  asks (Added b n) = false
-  asks (Pinged b) = false
-  asks (Asked b n) = address .same a b
-  asks (Ended b n) = false
-  asks Other = false
-
-  abbrev pub askedAt : Deed A → ℕ
-  askedAt (Told e) = 0
-  askedAt (Sender b) = 0
-  askedAt (Added b n) = 0
-  askedAt (Pinged b) = 0
-  askedAt (Asked b n) = n
-  askedAt (Ended b n) = 0
-  askedAt Other = 0
-
-  -- a ping to this address
-  abbrev pub pings : Deed A → Bool
-  pings (Told e) = false
-  pings (Sender b) = false
-  pings (Added b n) = false
-  pings (Pinged b) = address .same a b
-  pings (Asked b n) = false
-  pings (Ended b n) = false
-  pings Other = false
 
   -- ""Reported" means the number in an event that a kept call reported for that address."
   abbrev pub about : Event A → ℕ
@@ -98,14 +63,13 @@ module _ {A : Type 0} (address : Address A) (a : A) where
   reported [] = 0
   reported (g ∷ gs) = max (about (g .event)) (reported gs)
 
-  -- one moment: what it counts, whether the bound starts anew, and the number that a ping takes
+  -- one moment: what it counts, and whether the bound starts anew
   abbrev pub step : Moment A → Tally → Tally
   step m t =
       record {
         entries = t .entries + one (comes (m .deed) && not (inside t));
         departures = t .departures + one (goes (m .deed) (m .before) && inside t);
-        top = pick (pick (inside t) (asks (m .deed)) (comes (m .deed))) (reported (m .said)) (max (t .top) (reported (m .said)));
-        taken = pick (pings (m .deed)) (numbered address a (m .before)) (t .taken);
+        top = pick (comes (m .deed) && not (inside t)) (reported (m .said)) (max (t .top) (reported (m .said)));
       }
 
   abbrev pub tally : List (Moment A) → Tally → Tally
@@ -114,4 +78,4 @@ module _ {A : Type 0} (address : Address A) (a : A) where
 
   -- "Entries: the fresh node's own address"
   abbrev pub begun : A → Tally
-  begun own = record { entries = one (address .same a own); departures = 0; top = 0; taken = 0 }
+  begun own = record { entries = one (address .same a own); departures = 0; top = 0 }

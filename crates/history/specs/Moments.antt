@@ -6,19 +6,17 @@ use mathlib.Core.Option.{Option, none, some}
 use Prim.Native.Nat.{ℕ}
 use lib.ListN.{getD}
 use Rattle.model.specs.Answers.{Answer, done, refused, andThen}
-use Rattle.model.specs.Words.{Address, Event, Gossip, Action, Ping, PingReq, Ack, Timer, WaitState, SendingPing, WaitingForPingAck, SendingPingReq, WaitingForPingReqAck, Declaring, noTimer}
+use Rattle.model.specs.Words.{Address, Event, Gossip, Action, Ping, PingReq, Ack, Timer, WaitState, noTimer}
 use Rattle.model.specs.Members as list
 use Rattle.model.specs.Node.{Node, Out, spread, withMembers}
 use Rattle.model.specs.Handler.{item, gossip, admit, acked}
-use Rattle.model.specs.Detector.{suspect, sendPing, sendPingReq, declare, Stepped, endAt}
+use Rattle.model.specs.Detector.{Stepped, step, endAt}
 
--- what a rule was asked: a gossip record, a Ping's sender, an add, a ping, the ping-request step, an ended timer, or something else
+-- what a rule was asked: a gossip record, a Ping's sender, an add, an ended timer, or something else, as a detector step
 pub data Deed (A : Type 0) : Type 0 where
   Told : Event A → Deed A
   Sender : A → Deed A
-  Added : A → ℕ → Deed A
-  Pinged : A → Deed A
-  Asked Ended : A → ℕ → Deed A
+  Added Ended : A → ℕ → Deed A
   Other : Deed A
 
 pub record Moment (A : Type 0) : Type 0 where
@@ -45,9 +43,10 @@ module _ {A : Type 0} where
   traceThen (refused r) k = []
   traceThen (done o ds) k = k (o .node) ds
 
-  abbrev pub steppedTo : Deed A → Node A → Answer (Stepped A) → List (Moment A)
-  steppedTo d s (refused r) = []
-  steppedTo d s (done e ds) = silent d s (e .effect .node)
+  -- a detector step is one moment
+  abbrev pub stepped : Node A → Answer (Stepped A) → List (Moment A)
+  stepped s (refused r) = []
+  stepped s (done e ds) = record { before = s; deed = Other; after = e .effect .node; said = e .effect .events } ∷ []
 
 module _ {A : Type 0} (address : Address A) where
   abbrev pub traceGossip : List (Gossip A) → Node A → List ℕ → List (Moment A)
@@ -71,31 +70,8 @@ module _ {A : Type 0} (address : Address A) where
   traceMessage (PingReq from suspect) gs s ds = traceGossip gs s ds ++ traceThen (gossip address gs s ds) (λ s′ rest. traceSpread s′)
   traceMessage (Ack from to) gs s ds = traceGossip gs s ds ++ traceThen (gossip address gs s ds) (λ s′ rest. traceAck from to s′)
 
-  -- whom a wait record waits for
-  abbrev pub pingedDeed : WaitState A → Deed A
-  pingedDeed SendingPing = Other
-  pingedDeed (WaitingForPingAck a n) = Pinged a
-  pingedDeed (SendingPingReq a n) = Other
-  pingedDeed (WaitingForPingReqAck a n) = Other
-  pingedDeed (Declaring a n) = Other
-
-  -- a ping to the peer that the wait record names after it
-  abbrev pub tracePing : Node A → Answer (Stepped A) → List (Moment A)
-  tracePing s (refused r) = []
-  tracePing s (done e ds) = silent (pingedDeed (e .wait .state)) s (e .effect .node)
-
-  -- the suspicion, then the pick and the choosing for each of the group
-  abbrev pub traceAsk : A → ℕ → ℕ → Node A → List ℕ → List (Moment A)
-  traceAsk a n now s ds =
-      moment (Asked a n) s (suspect address a n s ds)
-      ++ traceThen (suspect address a n s ds) (λ s′ rest. steppedTo Other s′ (sendPingReq address a n now s ds))
-
   abbrev pub traceStep : WaitState A → ℕ → Node A → List ℕ → List (Moment A)
-  traceStep SendingPing now s ds = tracePing s (sendPing address now s ds)
-  traceStep (WaitingForPingAck a n) now s ds = []
-  traceStep (SendingPingReq a n) now s ds = traceAsk a n now s ds
-  traceStep (WaitingForPingReqAck a n) now s ds = []
-  traceStep (Declaring a n) now s ds = steppedTo Other s (declare address a n now s ds)
+  traceStep st now s ds = stepped s (step address st now s ds)
 
   abbrev pub endedDeed : Timer A → Deed A
   endedDeed t = Ended (t .addr) (t .number)

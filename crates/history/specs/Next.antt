@@ -13,7 +13,7 @@ use Rattle.model.specs.Bounds.{Room}
 use Rattle.model.specs.Words.{Address, Lawful, Event, Deceased, Gossip, Action, Ping, PingReq, Ack}
 use Rattle.model.specs.Node.{Node, loaded, lists, numbered}
 use Rattle.history.specs.Moments.{Deed, Told, Sender, Other, Moment}
-use Rattle.history.specs.Ledger.{Tally, asks, step, tally}
+use Rattle.history.specs.Ledger.{Tally, step, tally}
 use Rattle.history.specs.Did.{Fine}
 use Rattle.history.specs.Walk.{Along}
 use Rattle.history.specs.Rules.{never}
@@ -58,14 +58,11 @@ module _ {A : Type 0} (address : Address A) (a : A) where
   record-first (Ack from none) gs i e p = in-records gs (Other ∷ []) i e p
   record-first (Ack from (some to)) gs i e p = rw (append-nil (records gs)) at (in-records gs [] i e p)
 
-  -- the address is listed after each moment; none of them is a ping-request step for it
+  -- the address is listed after each moment
   abbrev pub StaysListed : List (Moment A) → Type 0
   StaysListed ms = (i : ℕ) (m : Moment A) → At ms i m → lists address a (m .after) ≡ true
 
-  abbrev pub NotAsked : List (Moment A) → Type 0
-  NotAsked ms = (i : ℕ) (m : Moment A) → At ms i m → asks address a (m .deed) ≡ false
-
-  -- both can be met: moment by moment
+  -- it can be met: moment by moment
   pub stays-none : StaysListed []
   stays-none i m p = absurd p
 
@@ -73,20 +70,13 @@ module _ {A : Type 0} (address : Address A) (a : A) where
   stays-more m ms l p zero x e = ap (λ (y : Moment A). lists address a (y .after)) (sym e) ∙ l
   stays-more m ms l p (suc i) x e = p i x e
 
-  pub not-asked-none : NotAsked []
-  not-asked-none i m p = absurd p
-
-  pub not-asked-more : (m : Moment A) (ms : List (Moment A)) → asks address a (m .deed) ≡ false → NotAsked ms → NotAsked (m ∷ ms)
-  not-asked-more m ms l p zero x e = ap (λ (y : Moment A). asks address a (y .deed)) (sym e) ∙ l
-  not-asked-more m ms l p (suc i) x e = p i x e
-
-  pub rises-along : (own : A) (s s′ : Node A) (ms : List (Moment A)) (t : Tally) → Leads s ms s′ → Along address a own ms t → StaysListed ms → NotAsked ms → lists address a s ≡ true
+  pub rises-along : (own : A) (s s′ : Node A) (ms : List (Moment A)) (t : Tally) → Leads s ms s′ → Along address a own ms t → StaysListed ms → lists address a s ≡ true
       → numbered address a s ≤ numbered address a s′
-  rises-along own s s′ [] t e f stays quiet l = omega (arith, ap (numbered address a) e)
-  rises-along own s s′ (m ∷ ms) t (e, leads) (f, fs) stays quiet l =
+  rises-along own s s′ [] t e f stays l = omega (arith, ap (numbered address a) e)
+  rises-along own s s′ (m ∷ ms) t (e, leads) (f, fs) stays l =
       let now : lists address a (m .after) ≡ true = stays zero m refl in
-      let first : numbered address a (m .before) ≤ numbered address a (m .after) = f .rises (f .before ∙ ap (lists address a) (sym e) ∙ l) (f .after ∙ now) (quiet zero m refl) in
-      let rest = rises-along own (m .after) s′ ms (step address a m t) leads fs (λ i x p. stays (suc i) x p) (λ i x p. quiet (suc i) x p) now in
+      let first : numbered address a (m .before) ≤ numbered address a (m .after) = f .rises (f .before ∙ ap (lists address a) (sym e) ∙ l) (f .after ∙ now) in
+      let rest = rises-along own (m .after) s′ ms (step address a m t) leads fs (λ i x p. stays (suc i) x p) now in
       omega (arith, ap (numbered address a) e)
 
   pub goes-out : (l l′ g : Bool) → l ≡ true → l′ ≡ false → (l ≡ true → l′ ≡ not g) → g ≡ true
@@ -104,15 +94,14 @@ module _ {A : Type 0} (address : Address A) (a : A) where
         → m .deed ≡ Told e
     told-at action gs ds lent i m e q p r =
         let d : At (deedsOf address c w) i (m .deed) = rw (known .tells .asks) at (deed-at (moments address c w) i m p) in
-        let next = outcome address c w .wait .state in
-        let d₂ : At (asked address c w next) i (m .deed) = at-asked (outcome address c w .outcome .reply) (asked address c w next) i (m .deed) d in
+        let d₂ : At (asked address c w) i (m .deed) = at-asked (outcome address c w .outcome .reply) (asked address c w) i (m .deed) d in
         let d₃ : At (messageDeeds action gs) i (m .deed) = rw q at d₂ in
         at-is (messageDeeds action gs) i (m .deed) (Told e) d₃ (record-first action gs i e r)
 
-    -- a peer that stays listed through the call, with no ping-request step for it: its number does not fall
-    pub steady : StaysListed (moments address c w) → NotAsked (moments address c w) → lists address a (loaded (w .node)) ≡ true
+    -- a peer that stays listed through the call: its number does not fall
+    pub steady : StaysListed (moments address c w) → lists address a (loaded (w .node)) ≡ true
         → numbered address a (loaded (w .node)) ≤ numbered address a (loaded (outcome address c w .outcome .node))
-    steady stays quiet l = rises-along own _ _ (moments address c w) t (known .tells .leads) (known .fine) stays quiet l
+    steady stays l = rises-along own _ _ (moments address c w) t (known .tells .leads) (known .fine) stays l
 
     -- a Deceased gossip that takes a peer out carries a number no lower than any reported for it: `top` of the ledger before that moment
     pub bounded : (action : Action A) (gs : List (Gossip A)) (ds : List ℕ) (lent : Room) (i : ℕ) (m : Moment A) (from : A) (n : ℕ) → c ≡ Receive action gs ds lent → At (moments address c w) i m
@@ -124,9 +113,9 @@ module _ {A : Type 0} (address : Address A) (a : A) where
 
   -- it is known of every call on a world that stands
   pub known-of : (lawful : Lawful address) (own : A) (t : Tally) (c : Call A) (w : World A) → Stands address lawful a own t w → Known own t c w
-  known-of lawful own t c _ (stands s w g k tk) =
+  known-of lawful own t c _ (stands s w g k) =
       record {
         tells = chain.call-tells address lawful s w g c;
-        fine = call-stands address lawful a own t c (record { node = _; wait = w }) (stands s w g k tk) .fine;
+        fine = call-stands address lawful a own t c (record { node = _; wait = w }) (stands s w g k) .fine;
         pings = chain.ping-goes address lawful s w g c;
       }

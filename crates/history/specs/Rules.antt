@@ -1,6 +1,6 @@
 -- What each rule of the handler and the detector does to one address.
 -- Assumes nothing.
-use mathlib.Core.Path.{_≡_, refl, ap, sym, _∙_}
+use mathlib.Core.Path.{_≡_, refl, ap, _∙_}
 use mathlib.Core.Bool.{Bool, true, false, _&&_}
 use mathlib.Core.List.{List, [], _∷_}
 use mathlib.Core.Option.{Option}
@@ -19,12 +19,12 @@ use Rattle.laws.specs.After.{After, halts, gives, after-map, after-when, after-
 use Rattle.model.specs.Words.{Address, Lawful, Event, Nothing, Joined, Recovered, Suspected, Deceased, Gossip, Timer, noTimer, partsOf}
 use Rattle.model.specs.Members.{Members, added, add, remove, update}
 use Rattle.model.specs.Node.{Disseminator, Node, Out, withMembers, withDisseminator, withTimers, quiet, pushed, emit, lists, numbered, stateOf, heldDeath, change, leave}
-use Rattle.model.specs.Handler.{Verdict, Enter, Raise, Recover, Suspect, Bury, Refute, Silent, Emits, listAfter, newsOf, act, item, admit, acked}
+use Rattle.model.specs.Handler.{Verdict, Enter, Raise, Recover, Suspect, Bury, Refute, Emits, listAfter, newsOf, act, item, admit, acked}
 use Rattle.model.specs.Detector.{suspect, ended, endAt}
-use Rattle.laws_rules.specs.Judged.{believed-le, Judged, skipped, joined-at-end, joined-low, joined-raises, joined-enters, recovered-unknown, recovered-low, recovered-recovers, own-at-end, own-refutes, suspected-unknown, suspected-equal, suspected-low, suspected-suspects, deceased-unknown, deceased-low, deceased-buries, judged, SenderJudged, listed-already, sender-at-end, sender-enters, sender-judged}
+use Rattle.laws_rules.specs.Judged.{Judged, skipped, joined-at-end, joined-low, joined-raises, joined-enters, recovered-unknown, recovered-low, recovered-recovers, own-at-end, own-refutes, suspected-unknown, suspected-equal, suspected-low, suspected-suspects, deceased-unknown, deceased-low, deceased-buries, judged, SenderJudged, listed-already, sender-at-end, sender-enters, sender-judged}
 use Rattle.laws_list.specs.Whole.{Whole}
-use Rattle.history.specs.Moments.{Deed, Told, Sender, Added, Asked, Other, endedDeed}
-use Rattle.history.specs.Ledger.{comes, goes, asks, about, reported}
+use Rattle.history.specs.Moments.{Deed, Told, Sender, Added, Other, endedDeed}
+use Rattle.history.specs.Ledger.{comes, goes, about, reported}
 use Rattle.history.specs.Did.{Did, stay, put-did, came-did, gone-did}
 
 pub never : {B : Type 0} → _≡_ {A = Bool} false true → B
@@ -74,9 +74,9 @@ module _ {A : Type 0} (address : Address A) (lawful : Lawful address) (a : A) wh
 
   -- nothing done and nothing said
   idle : (s : Node A) (d : Deed A) (ds : List ℕ) → Whole (address .same) (s .members) → (lists address a s ≡ true → goes address a d s ≡ false)
-      → (lists address a s ≡ false → comes address a d ≡ false) → asks address a d ≡ false → Runs s d (quiet s ds)
+      → (lists address a s ≡ false → comes address a d ≡ false) → Runs s d (quiet s ds)
   unfolding quiet
-  idle s d ds w g c k = gives (stay address a lawful s d (record { node = s; said = [] }) w refl refl g c k (λ _ _. omega arith))
+  idle s d ds w g c = gives (stay address a lawful s d (record { node = s; said = [] }) w refl refl g c (λ _ _. omega arith))
 
   -- what `add` gives: the list with the address at some place
   pub add-gives : (b : A) (n : ℕ) (m : Members A) (ds : List ℕ)
@@ -87,25 +87,23 @@ module _ {A : Type 0} (address : Address A) (lawful : Lawful address) (a : A) wh
   -- Carrying out a verdict, by what it does to the list.
   -- an address comes in
   enter-did : (b : A) (n : ℕ) (s : Node A) (d : Deed A) (ds : List ℕ) → Whole (address .same) (s .members) → lists address b s ≡ false
-      → goes address a d s ≡ false → comes address a d ≡ address .same a b → asks address a d ≡ false → Runs s d (act address (Enter b n) s ds)
+      → goes address a d s ≡ false → comes address a d ≡ address .same a b → Runs s d (act address (Enter b n) s ds)
   unfolding act listAfter newsOf
-  enter-did b n s d ds w f g c k =
+  enter-did b n s d ds w f g c =
       after-then (add-gives b n (s .members) ds)
       (λ r rest p. emit-did kind.Alive _ s (withMembers s r) d rest
-      (λ x. came-did address a lawful b n (p .0) s d _ w (p .1) refl f (p .2) g c k (said-at b n) (said-off b n)))
+      (λ x. came-did address a lawful b n (p .0) s d _ w (p .1) refl f (p .2) g c (said-at b n) (said-off b n)))
 
-  -- a listed address is given a number that is no lower
+  -- a listed address is given a state and a number
   updated-did : (b : A) (n : ℕ) (st : State) (v : Verdict A) (e : Event A) (s : Node A) (d : Deed A) (ds : List ℕ)
       → listAfter address v (s .members) ds ≡ done (update (address .same) (record { addr = b; state = st; number = n }) (s .members)) ds → newsOf address v (s .own) ≡ Emits kind.Alive e
-      → about address a e ≡ pick (address .same a b) n 0 → Whole (address .same) (s .members) → numbered address b s ≤ n
-      → goes address a d s ≡ false → (lists address a s ≡ false → comes address a d ≡ false) → asks address a d ≡ false → Runs s d (act address v s ds)
+      → about address a e ≡ pick (address .same a b) n 0 → Whole (address .same) (s .members)
+      → goes address a d s ≡ false → (lists address a s ≡ false → comes address a d ≡ false) → Runs s d (act address v s ds)
   unfolding act
-  updated-did b n st v e s d ds l u r w h g c k =
+  updated-did b n st v e s d ds l u r w g c =
       rw (l, u)
       (emit-did kind.Alive _ s _ d ds
       (λ x. put-did address a lawful (record { addr = b; state = st; number = n }) (s .members) s d _ w refl refl refl g c
-      (λ _ q _. omega (arith, same-number b s q))
-      (λ q. never (sym k ∙ q))
       (λ q. rw r (said-at b n q))
       (λ q. rw r (said-off b n q))))
 
@@ -133,37 +131,37 @@ module _ {A : Type 0} (address : Address A) (lawful : Lawful address) (a : A) wh
   unfolding act listAfter newsOf
   bury-did f b n s ds w l h =
       emit-did kind.Deceased _ s _ (Told (Deceased f b n)) ds
-      (λ x. gone-did address a lawful b s (Told (Deceased f b n)) _ w refl refl l (departs b n s (le-leb (numbered address b s) n h)) refl refl (said-off b n))
+      (λ x. gone-did address a lawful b s (Told (Deceased f b n)) _ w refl refl l (departs b n s (le-leb (numbered address b s) n h)) refl (said-off b n))
 
   -- the own address answers a suspicion
   refute-did : (f b : A) (n next : ℕ) (s : Node A) (ds : List ℕ) → Whole (address .same) (s .members) → Runs s (Told (Suspected f b n)) (act address (Refute next) s ds)
   unfolding act listAfter newsOf
   refute-did f b n next s ds w =
       emit-did kind.Alive _ s s (Told (Suspected f b n)) ds
-      (λ x. stay address a lawful s (Told (Suspected f b n)) _ w refl refl (λ _. refl) (λ _. refl) refl
+      (λ x. stay address a lawful s (Told (Suspected f b n)) _ w refl refl (λ _. refl) (λ _. refl)
       (λ q _. omega (arith, said-off (s .own) next (same-false (s .own) a q))))
 
   judged-did : (e : Event A) (v : Verdict A) (s : Node A) (x : Option ℕ) (ds : List ℕ) → Whole (address .same) (s .members) → Judged address (s .own) (s .members .table) x e v → Runs s (Told e) (act address v s ds)
   unfolding listAfter newsOf act
-  judged-did _ _ s x ds w skipped = idle s (Told Nothing) ds w (λ _. refl) (λ _. refl) refl
+  judged-did _ _ s x ds w skipped = idle s (Told Nothing) ds w (λ _. refl) (λ _. refl)
   judged-did _ _ s x ds w (joined-at-end e) = halts
-  judged-did _ _ s x ds w (joined-low {f = f} {a = b} {n = n} least e l h) = idle s (Told (Joined f b n)) ds w (λ _. refl) (apart b s l) refl
+  judged-did _ _ s x ds w (joined-low {f = f} {a = b} {n = n} least e l h) = idle s (Told (Joined f b n)) ds w (λ _. refl) (apart b s l)
   judged-did _ _ s x ds w (joined-raises {f = f} {a = b} {n = n} least e l h) =
-      updated-did b (max least n) (stateOf address b s) (Raise b (max least n)) (Joined (s .own) b (max least n)) s (Told (Joined f b n)) ds refl refl refl w (omega arith) refl (apart b s l) refl
-  judged-did _ _ s x ds w (joined-enters {f = f} {a = b} {n = n} least e l) = enter-did b (max least n) s (Told (Joined f b n)) ds w l refl refl refl
-  judged-did _ _ s x ds w (recovered-unknown {f = f} {a = b} {n = n} l) = idle s (Told (Recovered f b n)) ds w (λ _. refl) (λ _. refl) refl
-  judged-did _ _ s x ds w (recovered-low {f = f} {a = b} {n = n} l h) = idle s (Told (Recovered f b n)) ds w (λ _. refl) (λ _. refl) refl
+      updated-did b (max least n) (stateOf address b s) (Raise b (max least n)) (Joined (s .own) b (max least n)) s (Told (Joined f b n)) ds refl refl refl w refl (apart b s l)
+  judged-did _ _ s x ds w (joined-enters {f = f} {a = b} {n = n} least e l) = enter-did b (max least n) s (Told (Joined f b n)) ds w l refl refl
+  judged-did _ _ s x ds w (recovered-unknown {f = f} {a = b} {n = n} l) = idle s (Told (Recovered f b n)) ds w (λ _. refl) (λ _. refl)
+  judged-did _ _ s x ds w (recovered-low {f = f} {a = b} {n = n} l h) = idle s (Told (Recovered f b n)) ds w (λ _. refl) (λ _. refl)
   judged-did _ _ s x ds w (recovered-recovers {f = f} {a = b} {n = n} l h) =
-      updated-did b n state.Alive (Recover b n) (Recovered (s .own) b n) s (Told (Recovered f b n)) ds refl refl refl w (omega arith) refl (λ _. refl) refl
+      updated-did b n state.Alive (Recover b n) (Recovered (s .own) b n) s (Told (Recovered f b n)) ds refl refl refl w refl (λ _. refl)
   judged-did _ _ s x ds w (own-at-end o e) = halts
   judged-did _ _ s x ds w (own-refutes {f = f} {a = b} {n = n} next o e) = refute-did f b n next s ds w
-  judged-did _ _ s x ds w (suspected-unknown {f = f} {a = b} {n = n} o l) = idle s (Told (Suspected f b n)) ds w (λ _. refl) (λ _. refl) refl
-  judged-did _ _ s x ds w (suspected-equal {f = f} {a = b} {n = n} o l h e) = idle s (Told (Suspected f b n)) ds w (λ _. refl) (λ _. refl) refl
-  judged-did _ _ s x ds w (suspected-low {f = f} {a = b} {n = n} o l h) = idle s (Told (Suspected f b n)) ds w (λ _. refl) (λ _. refl) refl
+  judged-did _ _ s x ds w (suspected-unknown {f = f} {a = b} {n = n} o l) = idle s (Told (Suspected f b n)) ds w (λ _. refl) (λ _. refl)
+  judged-did _ _ s x ds w (suspected-equal {f = f} {a = b} {n = n} o l h e) = idle s (Told (Suspected f b n)) ds w (λ _. refl) (λ _. refl)
+  judged-did _ _ s x ds w (suspected-low {f = f} {a = b} {n = n} o l h) = idle s (Told (Suspected f b n)) ds w (λ _. refl) (λ _. refl)
   judged-did _ _ s x ds w (suspected-suspects {f = f} {a = b} {n = n} o l h) =
-      updated-did b n state.Suspected (Suspect b n) (Suspected (s .own) b n) s (Told (Suspected f b n)) ds refl refl refl w (believed-le (stateOf address b s) (numbered address b s) n h) refl (λ _. refl) refl
-  judged-did _ _ s x ds w (deceased-unknown {f = f} {a = b} {n = n} l) = idle s (Told (Deceased f b n)) ds w (λ p. not-it b n s (absent b s l p)) (λ _. refl) refl
-  judged-did _ _ s x ds w (deceased-low {f = f} {a = b} {n = n} l h) = idle s (Told (Deceased f b n)) ds w (λ _. too-low b n s h) (λ _. refl) refl
+      updated-did b n state.Suspected (Suspect b n) (Suspected (s .own) b n) s (Told (Suspected f b n)) ds refl refl refl w refl (λ _. refl)
+  judged-did _ _ s x ds w (deceased-unknown {f = f} {a = b} {n = n} l) = idle s (Told (Deceased f b n)) ds w (λ p. not-it b n s (absent b s l p)) (λ _. refl)
+  judged-did _ _ s x ds w (deceased-low {f = f} {a = b} {n = n} l h) = idle s (Told (Deceased f b n)) ds w (λ _. too-low b n s h) (λ _. refl)
   judged-did _ _ s x ds w (deceased-buries {f = f} {a = b} {n = n} l h) = bury-did f b n s ds w l h
 
   pub item-did : (e : Event A) (s : Node A) (ds : List ℕ) → Whole (address .same) (s .members) → Runs s (Told e) (item address e s ds)
@@ -172,43 +170,40 @@ module _ {A : Type 0} (address : Address A) (lawful : Lawful address) (a : A) wh
 
   sender-did : (b : A) (v : Verdict A) (s : Node A) (x : Option ℕ) (ds : List ℕ) → Whole (address .same) (s .members) → SenderJudged address (s .own) (s .members .table) x b v → Runs s (Sender b) (act address v s ds)
   unfolding listAfter newsOf act
-  sender-did b _ s x ds w (listed-already l) = idle s (Sender b) ds w (λ _. refl) (apart b s l) refl
+  sender-did b _ s x ds w (listed-already l) = idle s (Sender b) ds w (λ _. refl) (apart b s l)
   sender-did b _ s x ds w (sender-at-end l e) = halts
-  sender-did b _ s x ds w (sender-enters n l e) = enter-did b n s (Sender b) ds w l refl refl refl
+  sender-did b _ s x ds w (sender-enters n l e) = enter-did b n s (Sender b) ds w l refl refl
 
   pub admit-did : (b : A) (s : Node A) (ds : List ℕ) → Whole (address .same) (s .members) → Runs s (Sender b) (admit address b s ds)
   unfolding admit
   admit-did b s ds w = sender-did b _ s _ ds w (sender-judged address (s .own) (s .members .table) (heldDeath address b s) b)
 
-  -- a record is replaced at the number held, and nothing is said: Alive after an Ack, Pending after a ping
-  pub held-did : (b : A) (st : State) (n : ℕ) (x : Members A) (s : Node A) (d : Deed A) (o : Out A) → Whole (address .same) x → x .table ≡ s .members .table
-      → o .node .members ≡ update (address .same) (record { addr = b; state = st; number = n }) x → o .node .own ≡ s .own → o .said ≡ []
-      → n ≡ numbered address b s → goes address a d s ≡ false → comes address a d ≡ false → asks address a d ≡ false → Did address a s d o
-  held-did b st n x s d o w t e m q k g c u =
+  -- a record is replaced, and nothing is said: Alive after an Ack, Pending after a ping
+  pub put-silent : (b : A) (st : State) (n : ℕ) (x : Members A) (s : Node A) (o : Out A) → Whole (address .same) x → x .table ≡ s .members .table
+      → o .node .members ≡ update (address .same) (record { addr = b; state = st; number = n }) x → o .node .own ≡ s .own → o .said ≡ [] → Did address a s Other o
+  put-silent b st n x s o w t e m q =
       let z : reported address a (o .said) ≡ 0 = ap (reported address a) q in
-      put-did address a lawful (record { addr = b; state = st; number = n }) x s d o w t e m g (λ _. c)
-      (λ l y _. omega (arith, same-number b s y)) (λ y. never (sym u ∙ y)) (λ _. omega arith) (λ _. z)
+      put-did address a lawful (record { addr = b; state = st; number = n }) x s Other o w t e m refl (λ _. refl) (λ _. omega arith) (λ _. z)
 
   pub acked-did : (b : A) (s : Node A) → Whole (address .same) (s .members) → Did address a s Other (record { node = acked address b s; said = [] })
   unfolding acked change
   acked-did b s w =
       elim (lists address b s) as (λ u. Did address a s Other (record { node = pick u (withMembers s (update (address .same) (record { addr = b; state = state.Alive; number = numbered address b s }) (s .members))) s; said = [] })) [
-        | true ↦ held-did b state.Alive (numbered address b s) (s .members) s Other _ w refl refl refl refl refl refl refl refl
-        | false ↦ stay address a lawful s Other _ w refl refl (λ _. refl) (λ _. refl) refl (λ _ _. omega arith)
+        | true ↦ put-silent b state.Alive (numbered address b s) (s .members) s _ w refl refl refl refl
+        | false ↦ stay address a lawful s Other _ w refl refl (λ _. refl) (λ _. refl) (λ _ _. omega arith)
       ]
 
-  -- the ping-request step writes the remembered number back
-  pub suspect-did : (b : A) (n : ℕ) (s : Node A) (ds : List ℕ) → Whole (address .same) (s .members) → Runs s (Asked b n) (suspect address b n s ds)
+  -- the ping-request step reports the remembered number, and the held one is no lower after it
+  pub suspect-did : (b : A) (n : ℕ) (s : Node A) (ds : List ℕ) → Whole (address .same) (s .members) → Runs s Other (suspect address b n s ds)
   unfolding suspect change
   suspect-did b n s ds w =
-      emit-did kind.Alive _ s _ (Asked b n) ds
-      (λ _. put-did address a lawful (record { addr = b; state = state.Suspected; number = n }) (s .members) s (Asked b n) _ w refl refl refl refl (λ _. refl)
-      (λ l q k. never (sym k ∙ q)) (λ q. (q, refl)) (said-at b n) (said-off b n))
+      emit-did kind.Alive _ s _ Other ds
+      (λ _. put-did address a lawful (record { addr = b; state = state.Suspected; number = n }) (s .members) s Other _ w refl refl refl refl (λ _. refl) (said-at b n) (said-off b n))
 
   -- the records stay, the order may have moved, and nothing is said
   pub other-did : (s : Node A) (o : Out A) → Whole (address .same) (o .node .members) → o .node .members .table ≡ s .members .table → o .node .own ≡ s .own → o .said ≡ []
       → Did address a s Other o
-  other-did s o w t m q = stay address a lawful s Other o w t m (λ _. refl) (λ _. refl) refl (λ _ _. omega (arith, ap (reported address a) q))
+  other-did s o w t m q = stay address a lawful s Other o w t m (λ _. refl) (λ _. refl) (λ _ _. omega (arith, ap (reported address a) q))
 
   -- an ended timer
   ended-did : (t : Timer A) (ts : List (Timer A)) (s : Node A) (ds : List ℕ) → Whole (address .same) (s .members)
@@ -219,9 +214,9 @@ module _ {A : Type 0} (address : Address A) (lawful : Lawful address) (a : A) wh
       (emit address kind.Deceased (record { event = Deceased (s .own) (t .addr) (t .number) })
       (pick u (withMembers (withTimers s ts) (remove (address .same) (t .addr) (s .members))) (withTimers s ts)) ds)) [
         | true ↦ λ e. emit-did kind.Deceased _ s _ (endedDeed address t) ds
-            (λ _. gone-did address a lawful (t .addr) s (endedDeed address t) _ w refl refl e refl refl refl (said-off (t .addr) (t .number)))
+            (λ _. gone-did address a lawful (t .addr) s (endedDeed address t) _ w refl refl e refl refl (said-off (t .addr) (t .number)))
         | false ↦ λ e. emit-did kind.Deceased _ s _ (endedDeed address t) ds
-            (λ _. stay address a lawful s (endedDeed address t) _ w refl refl (absent (t .addr) s e) (λ _. refl) refl
+            (λ _. stay address a lawful s (endedDeed address t) _ w refl refl (absent (t .addr) s e) (λ _. refl)
             (λ _ l. omega (arith, said-off (t .addr) (t .number) (absent (t .addr) s e l))))
       ]) refl
 
@@ -233,9 +228,9 @@ module _ {A : Type 0} (address : Address A) (lawful : Lawful address) (a : A) wh
   pub add-did : (b : A) (n : ℕ) (s : Node A) (ds : List ℕ) → Whole (address .same) (s .members) → lists address b s ≡ false
       → After (λ m. Did address a s (Added b n) (record { node = withMembers s m; said = [] })) (add (address .same) b n (s .members) ds)
   add-did b n s ds w e =
-      after-map (λ m p. came-did address a lawful b n (p .0) s (Added b n) _ w (p .1) refl e (p .2) refl refl refl (λ _. omega arith) (λ _. refl))
+      after-map (λ m p. came-did address a lawful b n (p .0) s (Added b n) _ w (p .1) refl e (p .2) refl refl (λ _. omega arith) (λ _. refl))
       (add-gives b n (s .members) ds)
 
   -- an add of an address that is listed
   pub already-did : (b : A) (n : ℕ) (s : Node A) → Whole (address .same) (s .members) → lists address b s ≡ true → Did address a s (Added b n) (record { node = s; said = [] })
-  already-did b n s w e = stay address a lawful s (Added b n) (record { node = s; said = [] }) w refl refl (λ _. refl) (apart b s e) refl (λ _ _. omega arith)
+  already-did b n s w e = stay address a lawful s (Added b n) (record { node = s; said = [] }) w refl refl (λ _. refl) (apart b s e) (λ _ _. omega arith)

@@ -29,7 +29,7 @@ use Rattle.laws_rules.specs.Keeps.{Keeps, add-keeps}
 use Rattle.laws_rules.specs.KeepsCalls.{handle-keeps, step-keeps, end-keeps, first-over-in}
 use Rattle.model.specs.Calls as calls
 use Rattle.history.specs.Ledger.{Tally, tally, begun}
-use Rattle.history.specs.Histories.{World, Call, Add, Receive, Step, outcome, worldOf, run, moments, start}
+use Rattle.history.specs.Histories.{World, Call, Add, Receive, Step, Lends, outcome, worldOf, run, moments, start}
 use Rattle.history.specs.Histories as history
 use Rattle.history.specs.Worlds.{Stands, stands, call-stands, first-cases}
 use Rattle.history.specs.Demand3 as demand3
@@ -61,6 +61,7 @@ module _ {A : Type 0} (address : Address A) where
   startedIn (Receive action gs ds lent) w = []
   startedIn (Step now ds lent) w = ifKept (outcome address (Step now ds lent) w .outcome .reply) (declared (w .wait .state) now)
   startedIn (history.Timer now lent) w = []
+  startedIn (Lends wait) w = []
 
   -- all that a history started, in order
   abbrev pub started : List (Call A) → World A → List (Timer A)
@@ -269,13 +270,14 @@ module _ {A : Type 0} (address : Address A) (lawful : Lawful address) (s : Node 
         | true ↦ step-follows now ds (after-both (λ e x y. (x, y)) (step-keeps address lawful (w .state) now seen ds good (not-false (calls.validState address (w .state)) (p .1 .1 .0))) (step-starts address (w .state) now seen ds))
         | false ↦ stayed []
       ])
+  call-follows (Lends wait) = stayed []
   call-follows (history.Timer now lent) =
       first-cases (Follows []) (calls.timerTests address (stored address s) lent) (calls.refuses (stored address s)) _ (λ r. stayed [])
       (λ p. timer-follows _ (first-over-in address lawful (seen .settings .«suspect_timeout») now (seen .timers)))
 
 module _ {A : Type 0} (address : Address A) (lawful : Lawful address) (a own : A) where
   call-within : (t : Tally) (c : Call A) (w : World A) → Stands address lawful a own t w → Within (loaded (outcome address c w .outcome .node) .timers) (loaded (w .node) .timers ++ startedIn address c w)
-  call-within t c _ (stands s w g k tk) = call-follows address lawful s w g c
+  call-within t c _ (stands s w g k) = call-follows address lawful s w g c
 
   runs-within : (h : List (Call A)) (w : World A) (t : Tally) → Stands address lawful a own t w → Within (loaded (run address h w .node) .timers) (loaded (w .node) .timers ++ started address h w)
   runs-within [] w t k = within-front _ []

@@ -8,11 +8,11 @@ use lib.ListN.{getD}
 use Rattle.model.specs.declared.Reply.{Reply}
 use Rattle.model.specs.declared.Reply.the-variants.{Done, Already, NotDue, Refused, RefusedAt}
 use Rattle.model.specs.Bounds.{Room}
-use Rattle.model.specs.Words.{Address, Message, Gossip, Action, Ping, PingReq, Ack, WaitState, SendingPing, WaitingForPingAck, SendingPingReq, WaitingForPingReqAck, Declaring, noTimer}
+use Rattle.model.specs.Words.{Address, Message, Gossip, Action, Ping, PingReq, Ack, SendingPing, WaitingForPingAck, noTimer}
 use Rattle.model.specs.Node.{Node, loaded}
 use Rattle.model.specs.Detector.{firstOver}
-use Rattle.history.specs.Moments.{Deed, Told, Sender, Added, Asked, Other, Moment, pingedDeed, endedDeed}
-use Rattle.history.specs.Histories.{World, Call, Add, Receive, Step, Timer, outcome}
+use Rattle.history.specs.Moments.{Deed, Told, Sender, Added, Other, Moment, endedDeed}
+use Rattle.history.specs.Histories.{World, Call, Add, Receive, Step, Timer, Lends, outcome}
 
 -- place i of a list, counted from 0, holds x
 abbrev pub At : {B : Type 0} → List B → ℕ → B → Type 0
@@ -60,25 +60,18 @@ module _ {A : Type 0} where
   messageDeeds (Ack from (some to)) gs = records gs
 
 module _ {A : Type 0} (address : Address A) where
-  -- what a due step asks, by its wait record before it; whom it pinged stands in the one after it
-  abbrev pub stepDeeds : WaitState A → WaitState A → List (Deed A)
-  stepDeeds SendingPing next = pingedDeed address next ∷ []
-  stepDeeds (WaitingForPingAck a n) next = []
-  stepDeeds (SendingPingReq a n) next = Asked a n ∷ Other ∷ []
-  stepDeeds (WaitingForPingReqAck a n) next = []
-  stepDeeds (Declaring a n) next = Other ∷ []
-
   -- "the earliest started that is over .. ends"
   abbrev pub timerDeeds : Option ℕ → Node A → List (Deed A)
   timerDeeds none s = []
   timerDeeds (some i) s = endedDeed address (getD (s .timers) i (noTimer address)) ∷ []
 
-  -- what a call asks that runs on a world and leaves a wait record
-  abbrev pub asked : Call A → World A → WaitState A → List (Deed A)
-  asked (Add a n ds) w next = Added a n ∷ []
-  asked (Receive action gs ds lent) w next = messageDeeds action gs
-  asked (Step now ds lent) w next = stepDeeds (w .wait .state) next
-  asked (Timer now lent) w next = timerDeeds (firstOver address (w .node .settings .«suspect_timeout») now (loaded (w .node) .timers)) (loaded (w .node))
+  -- what a call asks that runs on a world
+  abbrev pub asked : Call A → World A → List (Deed A)
+  asked (Add a n ds) w = Added a n ∷ []
+  asked (Receive action gs ds lent) w = messageDeeds action gs
+  asked (Step now ds lent) w = Other ∷ []
+  asked (Timer now lent) w = timerDeeds (firstOver address (w .node .settings .«suspect_timeout») now (loaded (w .node) .timers)) (loaded (w .node))
+  asked (Lends wait) w = []
 
   -- a call that was refused or not due asks nothing
   abbrev pub askedBy : Reply → List (Deed A) → List (Deed A)
@@ -89,7 +82,7 @@ module _ {A : Type 0} (address : Address A) where
   askedBy (RefusedAt r at) ds = []
 
   abbrev pub deedsOf : Call A → World A → List (Deed A)
-  deedsOf c w = askedBy (outcome address c w .outcome .reply) (asked c w (outcome address c w .wait .state))
+  deedsOf c w = askedBy (outcome address c w .outcome .reply) (asked c w)
 
   -- "if one: Ping, set Pending, wait for PingAck": a step that sends a ping and then waits for the peer b sent it to b, and to nobody else
   abbrev pub PingGoes : Call A → World A → Type 0

@@ -1,22 +1,18 @@
 -- The ledger along the moments of a call: whatever each rule keeps, the call keeps.
 -- Assumes nothing.
-use mathlib.Core.Path.{_≡_, refl, ap, _∙_}
-use mathlib.Core.Bool.{Bool, true, false}
+use mathlib.Core.Path.{_≡_, refl}
 use mathlib.Core.List.{List, [], _∷_, _++_}
 use mathlib.Core.Option.{Option, none, some}
 use Prim.Native.Nat.{ℕ}
-use Rattle.model.specs.Rows.{pick}
 use Rattle.model.specs.Answers.{Answer, done, refused, andThen}
 use Rattle.laws.specs.After.{After, halts, gives, after-then, after-map}
-use Rattle.model.specs.declared.State.the-variants as state
-use Rattle.model.specs.Words.{Address, Lawful, Gossip, Action, Ping, PingReq, Ack, WaitState, SendingPing, WaitingForPingAck, SendingPingReq, WaitingForPingReqAck, Declaring}
-use Rattle.model.specs.Node.{Node, Out, andMore, quiet, numbered, spread}
+use Rattle.model.specs.Words.{Address, Lawful, Gossip, Action, Ping, PingReq, Ack}
+use Rattle.model.specs.Node.{Node, Out, andMore, quiet, spread}
 use Rattle.model.specs.Handler.{item, gossip, admit, acked, answerTo, forwarded, handle}
-use Rattle.model.specs.Detector.{Stepped, suspect}
 use Rattle.history.specs.Moments.{Deed, Told, Sender, Other, Moment, momentOf, moment, traceThen, traceGossip, traceSpread, traceAck, traceMessage}
-use Rattle.history.specs.Ledger.{Tally, pings, asks, askedAt, step, tally}
+use Rattle.history.specs.Ledger.{Tally, step, tally}
 use Rattle.history.specs.Did.{Did, Kept, Fine, next}
-use Rattle.history.specs.Rules.{never, item-did, admit-did, acked-did, other-did}
+use Rattle.history.specs.Rules.{item-did, admit-did, acked-did, other-did}
 
 module _ {A : Type 0} (address : Address A) (a : A) where
   -- every moment is fine, each with the ledger before it
@@ -32,45 +28,38 @@ module _ {A : Type 0} (address : Address A) (a : A) where
   along-append own [] ns t p q = q
   along-append own (m ∷ ms) ns t p q = (p .0, along-append own ms ns (step address a m t) (p .1) q)
 
-  -- moments that led to a node: none of them was a ping to the address
+  -- moments that led to a node
   pub record Walked (own : A) (t : Tally) (ms : List (Moment A)) (s : Node A) : Type 0 where
     pub kept : Kept address a own s (tally address a ms t)
     pub fine : Along own ms t
-    pub taken : tally address a ms t .taken ≡ t .taken
 
   pub nowhere : {own : A} {t : Tally} {s : Node A} → Kept address a own s t → Walked own t [] s
-  nowhere k = record { kept = k; fine = tt; taken = refl }
+  nowhere k = record { kept = k; fine = tt }
 
   pub further : (own : A) (t : Tally) (ms ns : List (Moment A)) {s s′ : Node A} → Walked own t ms s → Walked own (tally address a ms t) ns s′ → Walked own t (ms ++ ns) s′
   further own t ms ns w v =
-      record {
-        kept = rw (tally-append ms ns t) (v .kept);
-        fine = along-append own ms ns t (w .fine) (v .fine);
-        taken = ap (λ (x : Tally). x .taken) (tally-append ms ns t) ∙ v .taken ∙ w .taken;
-      }
+      record { kept = rw (tally-append ms ns t) (v .kept); fine = along-append own ms ns t (w .fine) (v .fine) }
 
-  pub one-step : (own : A) (s : Node A) (d : Deed A) (o : Out A) (t : Tally) → Kept address a own s t → pings address a d ≡ false → (asks address a d ≡ true → askedAt address a d ≡ t .taken)
-      → Did address a s d o → Walked own t (momentOf d s o ∷ []) (o .node)
-  one-step own s d o t k pg tk f =
-      let p = next address a own s d o t k tk f in
-      record { kept = p .0; fine = (p .1, tt); taken = ap (λ (u : Bool). pick u (numbered address a s) (t .taken)) pg }
+  pub one-step : (own : A) (s : Node A) (d : Deed A) (o : Out A) (t : Tally) → Kept address a own s t → Did address a s d o → Walked own t (momentOf d s o ∷ []) (o .node)
+  one-step own s d o t k f =
+      let p = next address a own s d o t k f in
+      record { kept = p .0; fine = (p .1, tt) }
 
   abbrev pub Walks : A → Tally → List (Moment A) → Answer (Out A) → Type 0
   Walks own t ms x = After (λ o. Walked own t ms (o .node)) x
 
-  pub one-moment : (own : A) (s : Node A) (d : Deed A) (t : Tally) {x : Answer (Out A)} → Kept address a own s t → pings address a d ≡ false → (asks address a d ≡ true → askedAt address a d ≡ t .taken)
-      → After (Did address a s d) x → Walks own t (moment d s x) x
-  one-moment own s d t k pg tk halts = halts
-  one-moment own s d t k pg tk (gives {b = o} f) = gives (one-step own s d o t k pg tk f)
+  pub one-moment : (own : A) (s : Node A) (d : Deed A) (t : Tally) {x : Answer (Out A)} → Kept address a own s t → After (Did address a s d) x → Walks own t (moment d s x) x
+  one-moment own s d t k halts = halts
+  one-moment own s d t k (gives {b = o} f) = gives (one-step own s d o t k f)
 
   -- what follows a rule, with the node that it leaves: `at` says which node an answer holds
   pub then-moments : {B : Type 0} (at : B → Node A) (own : A) (t : Tally) (ms : List (Moment A)) {x : Answer (Out A)} (l : Node A → List ℕ → List (Moment A)) {k : Out A → List ℕ → Answer B}
       → Walks own t ms x
-      → ((o : Out A) (ds : List ℕ) → Kept address a own (o .node) (tally address a ms t) → tally address a ms t .taken ≡ t .taken → After (λ b. Walked own (tally address a ms t) (l (o .node) ds) (at b)) (k o ds))
+      → ((o : Out A) (ds : List ℕ) → Kept address a own (o .node) (tally address a ms t) → After (λ b. Walked own (tally address a ms t) (l (o .node) ds) (at b)) (k o ds))
       → After (λ b. Walked own t (ms ++ traceThen x l) (at b)) (andThen x k)
   then-moments at own t ms l halts f = halts
   then-moments at own t ms l (gives {b = o} {ds = rest} w) f =
-      after-map (λ b v. further own t ms (l (o .node) rest) w v) (f o rest (w .kept) (w .taken))
+      after-map (λ b v. further own t ms (l (o .node) rest) w v) (f o rest (w .kept))
 
   -- two rules, and what follows them
   then-more : {B : Type 0} (at : B → Node A) (own : A) (t : Tally) (ms : List (Moment A)) {x : Answer (Out A)} (k : Node A → List ℕ → Answer (Out A))
@@ -98,20 +87,20 @@ module _ {A : Type 0} (address : Address A) (a : A) where
     walk-gossip own [] s ds t k = gives (nowhere k)
     walk-gossip own (g ∷ gs) s ds t k =
         then-moments (λ o. o .node) own t (moment (Told (g .event)) s (item address (g .event) s ds)) (traceGossip address gs)
-        (one-moment own s (Told (g .event)) t k refl never (item-did address lawful a (g .event) s ds (k .whole)))
-        (λ o rest k′ _. after-then (walk-gossip own gs (o .node) rest _ k′) (λ p rest₂ v. gives v))
+        (one-moment own s (Told (g .event)) t k (item-did address lawful a (g .event) s ds (k .whole)))
+        (λ o rest k′. after-then (walk-gossip own gs (o .node) rest _ k′) (λ p rest₂ v. gives v))
 
     -- gossip is chosen: the list stands
     walk-spread : (own : A) (s : Node A) (t : Tally) → Kept address a own s t → Walked own t (traceSpread address s) (spread address s .node)
     unfolding spread
     walk-spread own s t k =
-        one-step own s Other (record { node = spread address s .node; said = [] }) t k refl never (other-did address lawful a s _ (k .whole) refl refl refl)
+        one-step own s Other (record { node = spread address s .node; said = [] }) t k (other-did address lawful a s _ (k .whole) refl refl refl)
 
     walk-ack : (own from : A) (to : Option A) (gs : List (Gossip A)) (o : Out A) (t : Tally) → Kept address a own (o .node) t
         → Walked own t (traceAck address from to (o .node)) (forwarded address from to gs o .node)
     unfolding forwarded
     walk-ack own from none gs o t k =
-        one-step own (o .node) Other (record { node = acked address from (o .node); said = [] }) t k refl never (acked-did address lawful a from (o .node) (k .whole))
+        one-step own (o .node) Other (record { node = acked address from (o .node); said = [] }) t k (acked-did address lawful a from (o .node) (k .whole))
     walk-ack own from (some to) gs o t k = nowhere k
 
     pub walk-message : (own : A) (action : Action A) (gs : List (Gossip A)) (s : Node A) (ds : List ℕ) (t : Tally) → Kept address a own s t
@@ -120,29 +109,11 @@ module _ {A : Type 0} (address : Address A) (a : A) where
     walk-message own (Ping from by) gs s ds t k =
         then-more (λ e. e .node) own t (traceGossip address gs s ds) (admit address from) (λ s′ rest. moment (Sender from) s′ (admit address from s′ rest)) (λ s′ rest. traceSpread address s′)
         (walk-gossip own gs s ds t k)
-        (λ s′ rest t′ k′. one-moment own s′ (Sender from) t′ k′ refl never (admit-did address lawful a from s′ rest (k′ .whole)))
+        (λ s′ rest t′ k′. one-moment own s′ (Sender from) t′ k′ (admit-did address lawful a from s′ rest (k′ .whole)))
         (λ o rest t′ k′. gives (walk-spread own (o .node) t′ k′))
     walk-message own (PingReq from suspect) gs s ds t k =
         then-moments (λ e. e .node) own t (traceGossip address gs s ds) (λ s′ rest. traceSpread address s′)
-        (walk-gossip own gs s ds t k) (λ o rest k′ _. gives (walk-spread own (o .node) _ k′))
+        (walk-gossip own gs s ds t k) (λ o rest k′. gives (walk-spread own (o .node) _ k′))
     walk-message own (Ack from to) gs s ds t k =
         then-moments (λ e. e .node) own t (traceGossip address gs s ds) (λ s′ rest. traceAck address from to s′)
-        (walk-gossip own gs s ds t k) (λ o rest k′ _. gives (walk-ack own from to gs o _ k′))
-
-  -- whom a wait record waits for, and the number it took
-  abbrev pub waitsFor : WaitState A → Option (A × ℕ)
-  waitsFor SendingPing = none
-  waitsFor (WaitingForPingAck b n) = some (b, n)
-  waitsFor (SendingPingReq b n) = some (b, n)
-  waitsFor (WaitingForPingReqAck b n) = some (b, n)
-  waitsFor (Declaring b n) = some (b, n)
-
-  -- the number in a wait record for the address is the one that the last ping to it took
-  abbrev pub Took : WaitState A → Tally → Type 0
-  Took st t = (b : A) (n : ℕ) → waitsFor st ≡ some (b, n) → address .same a b ≡ true → n ≡ t .taken
-
-  -- a step's moments, its node and its wait record
-  pub record StepWalked (own : A) (t : Tally) (ms : List (Moment A)) (e : Stepped A) : Type 0 where
-    pub kept : Kept address a own (e .effect .node) (tally address a ms t)
-    pub fine : Along own ms t
-    pub took : Took (e .wait .state) (tally address a ms t)
+        (walk-gossip own gs s ds t k) (λ o rest k′. gives (walk-ack own from to gs o _ k′))

@@ -1,6 +1,6 @@
 -- The ledger along every call and every history: the rows hold a good node, and every moment is fine.
 -- Assumes nothing.
-use mathlib.Core.Path.{_≡_, refl, sym, _∙_}
+use mathlib.Core.Path.{_≡_, refl, sym}
 use mathlib.Core.Bool.{Bool, true, false}
 use mathlib.Core.List.{List, [], _∷_}
 use mathlib.Core.Option.{Option, none, some}
@@ -12,7 +12,7 @@ use Rattle.model.specs.declared.Cause.{Cause}
 use Rattle.model.specs.declared.Refusal.{Refusal}
 use Rattle.model.specs.declared.Settings.{Settings}
 use Rattle.model.specs.Rows.{one, pick, every}
-use Rattle.laws.specs.Bools.{and-split, none-some}
+use Rattle.laws.specs.Bools.{and-split}
 use Rattle.model.specs.Answers.{Answer, done, andThen}
 use Rattle.laws.specs.After.{After, halts, gives, after-then, after-both}
 use Rattle.model.specs.Words.{Address, Lawful, Wait, SendingPing, noTimer}
@@ -27,10 +27,10 @@ use Rattle.model.specs.Calls.{Outcome, StepOutcome, firstOf, refuses, orAlready
 use Rattle.history.specs.Moments.{Moment, Added, moment, silent, traceAdd, traceMessage, traceStep, traceTimer, endedDeed}
 use Rattle.history.specs.Ledger.{Tally, tally, begun}
 use Rattle.history.specs.Did.{Did, Kept}
-use Rattle.history.specs.Rules.{never, add-did, already-did, timer-did}
-use Rattle.history.specs.Walk.{Along, Walked, tally-append, along-append, one-step, one-moment, walk-message, Took, StepWalked}
+use Rattle.history.specs.Rules.{add-did, already-did, timer-did}
+use Rattle.history.specs.Walk.{Along, Walked, tally-append, along-append, one-step, one-moment, walk-message}
 use Rattle.history.specs.WalkSteps.{walk-step}
-use Rattle.history.specs.Histories.{World, Call, Add, Receive, Step, Timer, outcome, worldOf, run, endingAt, momentsBy, moments, trace, start}
+use Rattle.history.specs.Histories.{World, Call, Add, Receive, Step, Timer, Lends, outcome, worldOf, run, endingAt, momentsBy, moments, trace, start}
 
 -- every test was passed
 abbrev pub Passed : List (Bool × Refusal) → Type 0
@@ -47,16 +47,16 @@ first-cases P (t ∷ ts) refuse go f g =
     ]) refl
 
 module _ {A : Type 0} (address : Address A) (lawful : Lawful address) (a : A) where
-  -- the rows hold a good node, the ledger is kept, and the wait record holds the number that the last ping took
+  -- the rows hold a good node, and the ledger is kept, whatever the wait record
   pub data Stands (own : A) (t : Tally) : World A → Type 0 where
-    stands : (s : Node A) (w : Wait A) → Good address s → Kept address a own s t → Took address a (w .state) t → Stands own t (record { node = stored address s; wait = w })
+    stands : (s : Node A) (w : Wait A) → Good address s → Kept address a own s t → Stands own t (record { node = stored address s; wait = w })
 
   -- moments that led to a world
   pub record Went (own : A) (t : Tally) (ms : List (Moment A)) (w : World A) : Type 0 where
     pub stands : Stands own (tally address a ms t) w
     pub fine : Along address a own ms t
 
-  module _ (own : A) (t : Tally) (s : Node A) (w : Wait A) (g : Good address s) (k : Kept address a own s t) (tk : Took address a (w .state) t) where
+  module _ (own : A) (t : Tally) (s : Node A) (w : Wait A) (g : Good address s) (k : Kept address a own s t) where
     abbrev kept-node : Stored A
     kept-node = stored address s
 
@@ -74,27 +74,24 @@ module _ {A : Type 0} (address : Address A) (lawful : Lawful address) (a : A) wh
     counted-so-far = rw seen-is k
 
     stayed : Went own t [] (record { node = stored address s; wait = w })
-    stayed = record { stands = stands s w g k tk; fine = tt }
+    stayed = record { stands = stands s w g k; fine = tt }
 
     -- an effect was kept, or nothing was
     effect-went : (ds : List ℕ) (ms idle : List (Moment A)) {x : Answer (Effect A)} → After (λ e. Keeps address seen (e .node) × Walked address a own t ms (e .node)) x
         → Went own t (momentsBy address (kept address (stored address s) ds x .reply) ms idle) (record { node = kept address (stored address s) ds x .node; wait = w })
     effect-went ds ms idle halts = stayed
     effect-went ds ms idle (gives {b = e} q) =
-        record {
-          stands = stands (e .node) w (q .0 .good) (q .1 .kept) (λ b n p h. tk b n p h ∙ sym (q .1 .taken));
-          fine = q .1 .fine;
-        }
+        record { stands = stands (e .node) w (q .0 .good) (q .1 .kept); fine = q .1 .fine }
 
     message-went : (at : Cause) (ds : List ℕ) (ms idle : List (Moment A)) {x : Answer (Effect A)} → After (λ e. Keeps address seen (e .node) × Walked address a own t ms (e .node)) x
         → Went own t (momentsBy address (keptMessage address (stored address s) at ds x .reply) ms idle) (record { node = keptMessage address (stored address s) at ds x .node; wait = w })
     message-went at ds ms idle halts = stayed
     message-went at ds ms idle (gives {b = e} {ds = rest} q) = effect-went ds ms idle (gives {b = e} {ds = rest} q)
 
-    step-went : (ds : List ℕ) (ms idle : List (Moment A)) {x : Answer (Stepped A)} → After (λ e. Keeps address seen (e .effect .node) × StepWalked address a own t ms e) x
+    step-went : (ds : List ℕ) (ms idle : List (Moment A)) {x : Answer (Stepped A)} → After (λ e. Keeps address seen (e .effect .node) × Walked address a own t ms (e .effect .node)) x
         → Went own t (momentsBy address (keptStep address (stored address s) w ds x .outcome .reply) ms idle) (worldOf address (keptStep address (stored address s) w ds x))
     step-went ds ms idle halts = stayed
-    step-went ds ms idle (gives {b = e} q) = record { stands = stands (e .effect .node) (e .wait) (q .0 .good) (q .1 .kept) (q .1 .took); fine = q .1 .fine }
+    step-went ds ms idle (gives {b = e} q) = record { stands = stands (e .effect .node) (e .wait) (q .0 .good) (q .1 .kept); fine = q .1 .fine }
 
     add-went : (b : A) (n : ℕ) (ds : List ℕ) (idle : List (Moment A)) {x : Answer (Members A)}
         → After (λ m. Keeps address seen (withMembers seen m) × Did address a seen (Added b n) (record { node = withMembers seen m; said = [] })) x
@@ -105,17 +102,14 @@ module _ {A : Type 0} (address : Address A) (lawful : Lawful address) (a : A) wh
         (record { node = kept address (stored address s) ds (andThen x λ m rest. done (record { node = withMembers seen m; messages = []; events = [] }) rest) .node; wait = w })
     add-went b n ds idle halts = stayed
     add-went b n ds idle (gives {b = m} {ds = rest} q) =
-        let v = one-step address a own seen (Added b n) (record { node = withMembers seen m; said = [] }) t counted-so-far refl never (q .1) in
+        let v = one-step address a own seen (Added b n) (record { node = withMembers seen m; said = [] }) t counted-so-far (q .1) in
         effect-went ds _ [] (gives {b = record { node = withMembers seen m; messages = []; events = [] }} {ds = rest} (q .0, v))
 
     -- an add of an address that is listed: no entry, by the ledger's own count
     already-went : (b : A) (n : ℕ) → lists address b seen ≡ true → Went own t (silent (Added b n) seen seen) (record { node = stored address s; wait = w })
     already-went b n e =
-        let v = one-step address a own seen (Added b n) (record { node = seen; said = [] }) t counted-so-far refl never (already-did address lawful a b n seen (good .whole) e) in
-        record {
-          stands = stands s w g (rw (sym seen-is) (v .kept)) (λ b′ m p h. tk b′ m p h ∙ sym (v .taken));
-          fine = v .fine;
-        }
+        let v = one-step address a own seen (Added b n) (record { node = seen; said = [] }) t counted-so-far (already-did address lawful a b n seen (good .whole) e) in
+        record { stands = stands s w g (rw (sym seen-is) (v .kept)); fine = v .fine }
 
     -- a timer ended, or none was over
     timer-went : (o : Option ℕ) → ((i : ℕ) → o ≡ some i → i < length (seen .timers))
@@ -125,7 +119,7 @@ module _ {A : Type 0} (address : Address A) (lawful : Lawful address) (a : A) wh
         let d = endedDeed address (getD (seen .timers) i (noTimer address)) in
         effect-went [] (traceTimer address i seen) []
         (after-then
-        (after-both (λ o x y. (x, y)) (end-keeps address lawful i seen [] good (h i refl)) (one-moment address a own seen d t counted-so-far refl never (timer-did address lawful a i seen [] (good .whole))))
+        (after-both (λ o x y. (x, y)) (end-keeps address lawful i seen [] good (h i refl)) (one-moment address a own seen d t counted-so-far (timer-did address lawful a i seen [] (good .whole))))
         (λ o rest q. gives q))
 
     call-went : (c : Call A) → Went own t (moments address c (record { node = stored address s; wait = w })) (worldOf address (outcome address c (record { node = stored address s; wait = w })))
@@ -154,9 +148,10 @@ module _ {A : Type 0} (address : Address A) (lawful : Lawful address) (a : A) wh
         elim (due (stored address s .settings) w now) as (λ u. let o = whenDue u (stored address s) w (keptStep address (stored address s) w ds (stepRule address (w .state) now seen ds)) in
         Went own t (momentsBy address (o .outcome .reply) (traceStep address (w .state) now seen ds) []) (worldOf address o)) [
           | true ↦ step-went ds (traceStep address (w .state) now seen ds) []
-              (after-both (λ e x y. (x, y)) (step-keeps address lawful (w .state) now seen ds good (not-false (validState address (w .state)) (p .1 .1 .0))) (walk-step address a lawful own (w .state) now seen ds t counted-so-far tk))
+              (after-both (λ e x y. (x, y)) (step-keeps address lawful (w .state) now seen ds good (not-false (validState address (w .state)) (p .1 .1 .0))) (walk-step address a lawful own (w .state) now seen ds t counted-so-far))
           | false ↦ stayed
         ])
+    call-went (Lends wait) = record { stands = stands s wait g k; fine = tt }
     call-went (Timer now lent) =
         first-cases (λ (o : Outcome A). Went own t (momentsBy address (o .reply) (endingAt address (firstOver address (seen .settings .«suspect_timeout») now (seen .timers)) seen) []) (record { node = o .node; wait = w })) (timerTests address (stored address s) lent) (refuses (stored address s)) _
         (λ r. stayed)
@@ -164,7 +159,7 @@ module _ {A : Type 0} (address : Address A) (lawful : Lawful address) (a : A) wh
 
   -- a call of any world that stands
   pub call-stands : (own : A) (t : Tally) (c : Call A) (w : World A) → Stands own t w → Went own t (moments address c w) (worldOf address (outcome address c w))
-  call-stands own t c _ (stands s w g k tk) = call-went own t s w g k tk c
+  call-stands own t c _ (stands s w g k) = call-went own t s w g k c
 
   -- and so every history
   pub walk : (own : A) (h : List (Call A)) (w : World A) (t : Tally) → Stands own t w → Went own t (trace address h w) (run address h w)
@@ -190,4 +185,3 @@ module _ {A : Type 0} (address : Address A) (lawful : Lawful address) (a : A) wh
         count = elim (address .same a own) as (λ u. one u ≡ 0 + one (pick u true false)) [ true ↦ refl | false ↦ refl ];
         low = λ _ _. omega arith;
       })
-      (λ b m q h. none-some q)

@@ -1,4 +1,4 @@
--- What a list says of an address after an update: the new record of its own, and the same as before of any other.
+-- What a list says of an address after an update: of its own the given state and the larger of the two numbers, and the same as before of any other.
 -- Assumes nothing.
 use mathlib.Core.Path.{_≡_, refl, ap, sym, _∙_}
 use mathlib.Core.Bool.{Bool, true, false}
@@ -6,7 +6,7 @@ use mathlib.Core.List.{List, [], _∷_}
 use Rattle.model.specs.declared.State.the-variants.{Alive}
 use Rattle.model.specs.Rows.{pick, has, Test}
 use Rattle.model.specs.Words.{Member}
-use Rattle.model.specs.Members.{Members, addrs, listed, put, held, heldState, update}
+use Rattle.model.specs.Members.{Members, addrs, listed, put, held, heldState, merged, update}
 
 module _ {A : Type 0} (same : A → A → Bool) where
   -- what a table says of an address, by any part of a record: its number and its state are two such parts
@@ -68,10 +68,10 @@ module _ {A : Type 0} (same : A → A → Bool) where
     said-put-other a m t q =
         says-same a t (put same m t) (look-put-other (λ k. k .number) 0 test a m t q) (look-put-other (λ k. k .state) Alive test a m t q)
 
-    pub updated-says : (m : Member A) (r : Members A) → listed same (m .addr) (r .table) ≡ true → Says (m .addr) m (update same m r .table)
+    pub updated-says : (m : Member A) (r : Members A) → listed same (m .addr) (r .table) ≡ true → Says (m .addr) (merged same m (r .table)) (update same m r .table)
     unfolding update
-    updated-says m r e = said-put (m .addr) m (r .table) e (test .same-refl (m .addr))
+    updated-says m r e = said-put (m .addr) (merged same m (r .table)) (r .table) e (test .same-refl (m .addr))
 
     pub updated-other : (m : Member A) (b : A) (r : Members A) → same b (m .addr) ≡ false → SaysSame b (r .table) (update same m r .table)
     unfolding update
-    updated-other m b r q = said-put-other b m (r .table) q
+    updated-other m b r q = said-put-other b (merged same m (r .table)) (r .table) q

@@ -14,7 +14,7 @@ use Rattle.model.specs.Rows.{one, pick, swap, occurs, has, erase, Test}
 use Rattle.model.specs.declared.State.the-variants.{Alive}
 use Rattle.laws.specs.After.{After, halts, gives, after-map, after-when, after-then}
 use Rattle.model.specs.Words.{Member}
-use Rattle.model.specs.Members.{Members, addrs, shuffleFrom, shuffle, strike, put, listed, added, remove, update, advance, positionAfter}
+use Rattle.model.specs.Members.{Members, addrs, shuffleFrom, shuffle, strike, put, merged, listed, added, remove, update, advance, positionAfter}
 use Rattle.laws.specs.Pad.{length-insertAt}
 use Rattle.laws.specs.Counts.{occurs-append, occurs-insertAt, occurs-swap, occurs-erase, has-le, has-none}
 
@@ -134,11 +134,12 @@ module _ {A : Type 0} (same : A → A → Bool) where
     pub update-whole : (m : Member A) (r : Members A) → Whole r → Whole (update same m r)
     unfolding update
     update-whole m r w =
+        let k = merged same m (r .table) in
         record {
-          once = λ b. rw (put-addrs m (r .table)) (w .once b);
-          counts = λ b. rw (put-addrs m (r .table)) (w .counts b);
-          long = w .long ∙ sym (put-length m (r .table));
-          few = omega (arith, put-length m (r .table), w .few);
+          once = λ b. rw (put-addrs k (r .table)) (w .once b);
+          counts = λ b. rw (put-addrs k (r .table)) (w .counts b);
+          long = w .long ∙ sym (put-length k (r .table));
+          few = omega (arith, put-length k (r .table), w .few);
           place = w .place;
         }
       where

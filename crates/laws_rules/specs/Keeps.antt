@@ -23,7 +23,7 @@ use Rattle.laws_heap.specs.HeapLaws.{push-length, push-every}
 use Rattle.laws_heap.specs.HeapTests.{push-in-order}
 use Rattle.model.specs.Heap.{push}
 use Rattle.model.specs.Choose.{termsOf, entryOf}
-use Rattle.model.specs.Members.{Members, addrs, added, add, remove, update}
+use Rattle.model.specs.Members.{Members, addrs, added, add, remove, merged, update}
 use Rattle.model.specs.Node.{Disseminator, heapOf, withHeap, Node, Out, withMembers, withDisseminator, withTimers, quiet, andMore, pushed, emit, lists, numbered, stateOf, heldDeath, change, leave, spread}
 use Rattle.model.specs.Handler.{Verdict, Skip, Unknown, Equal, Low, AtEnd, Refute, Enter, Raise, Recover, Suspect, Bury, News, Silent, Emits, listAfter, newsOf, tell, act, item, gossip, admit, acked}
 use Rattle.laws_rules.specs.Judged.{Judged, skipped, joined-at-end, joined-low, joined-raises, joined-enters, recovered-unknown, recovered-low, recovered-recovers, own-at-end, own-refutes, suspected-unknown, suspected-equal, suspected-low, suspected-suspects, deceased-unknown, deceased-low, deceased-buries, judged, SenderJudged, listed-already, sender-at-end, sender-enters, sender-judged}
@@ -141,7 +141,7 @@ module _ {A : Type 0} (address : Address A) where
         let m : Member A = record { addr = b; state = st; number = n } in
         record {
           good = with-members s _ g (update-whole (address .same) (lawful .test) m (s .members) (g .whole))
-              (rw (put-addrs (address .same) (lawful .test) m (s .members .table)) (g .valid));
+              (rw (put-addrs (address .same) (lawful .test) (merged (address .same) m (s .members .table)) (s .members .table)) (g .valid));
           own = refl;
           settings = refl;
         }

@@ -3,7 +3,7 @@
 use mathlib.Core.Path.{_≡_, refl, ap, sym, _∙_}
 use mathlib.Core.Bool.{Bool, true, false}
 use mathlib.Core.List.{List, [], _∷_, _++_, map}
-use Prim.Native.Nat.{ℕ, suc, _+_, _-_, _≤_, _<_, _%_}
+use Prim.Native.Nat.{ℕ, suc, _+_, _-_, _≤_, _<_, _%_, max}
 use native.Mathlib.Omega.{arith}
 use lib.ListN.{length, getD, set, take, drop, length-append, length-map, length-set, length-drop, drop-of-length-le, List·getD-eq-default}
 use lib.Seq.{drop-cons, set-out}
@@ -74,28 +74,32 @@ module _ (m : Members) (p : Packed m) (a : Addr) (place : ℕ) (e : place ≡ pl
       ∙ said nobody (List·getD-eq-default (held-table m) (words.noMember here) (omega (arith, view-many m p)))
 
 module _ (m : Members) (p : Packed m) (k : Member) (place : ℕ) (e : place ≡ place-in m (k .addr)) where
-  put-is : list.put (here .same) (toMember k) (held-table m) ≡ set (held-table m) place (toMember k)
-  put-is = put-place (here .same) (toMember k) (held-table m) ∙ ap (λ (i : ℕ). set (held-table m) i (toMember k)) (sym e)
+  -- the record with the larger of the held and the given number
+  abbrev kept : Member
+  kept = record { addr = k .addr; state = k .state; number = max (list.held (here .same) (k .addr) (held-table m)) (k .number) }
+
+  put-is : list.put (here .same) (toMember kept) (held-table m) ≡ set (held-table m) place (toMember kept)
+  put-is = put-place (here .same) (toMember kept) (held-table m) ∙ ap (λ (i : ℕ). set (held-table m) i (toMember kept)) (sym e)
 
   pub updated-none : place ≡ m .len → m ≡ packMembers (list.update (here .same) (toMember k) (viewMembers m))
   unfolding list.update viewMembers
   updated-none h =
-      let t : list.put (here .same) (toMember k) (held-table m) ≡ held-table m =
-      put-is ∙ set-out (held-table m) place (toMember k) (omega (arith, view-many m p)) in
+      let t : list.put (here .same) (toMember kept) (held-table m) ≡ held-table m =
+      put-is ∙ set-out (held-table m) place (toMember kept) (omega (arith, view-many m p)) in
       sym (ap (λ (l : List (words.Member Addr)). packMembers (record { table = l; order = take (m .len) (m .order .row); position = m .order .position })) t ∙ pack-view m p)
 
   pub updated : place < m .len
-      → _≡_ {A = Members} (record { table = set (m .table) place k; len = m .len; order = m .order })
+      → _≡_ {A = Members} (record { table = set (m .table) place kept; len = m .len; order = m .order })
       (packMembers (list.update (here .same) (toMember k) (viewMembers m)))
   unfolding list.update viewMembers packMembers
   updated h =
       let u = take (m .len) (m .table) in
-      let t : set (m .table) place k ≡ padTo 64 nobody (map fromMember (list.put (here .same) (toMember k) (held-table m))) =
-      ap (λ (l : List Member). set l place k) (p .table)
-      ∙ pad-set 64 nobody u place k (omega (arith, table-used m p))
-      ∙ ap (padTo 64 nobody) (sym (ap (map fromMember) put-is ∙ replaced-row u place k)) in
-      let n : m .len ≡ length (list.put (here .same) (toMember k) (held-table m)) =
-      sym (ap length put-is ∙ length-set (held-table m) place (toMember k) ∙ view-many m p) in
+      let t : set (m .table) place kept ≡ padTo 64 nobody (map fromMember (list.put (here .same) (toMember kept) (held-table m))) =
+      ap (λ (l : List Member). set l place kept) (p .table)
+      ∙ pad-set 64 nobody u place kept (omega (arith, table-used m p))
+      ∙ ap (padTo 64 nobody) (sym (ap (map fromMember) put-is ∙ replaced-row u place kept)) in
+      let n : m .len ≡ length (list.put (here .same) (toMember kept) (held-table m)) =
+      sym (ap length put-is ∙ length-set (held-table m) place (toMember kept) ∙ view-many m p) in
       λ i. record { table = t i; len = n i; order = record { row = p .order i; position = m .order .position } }
 
 -- the position of a list that nothing leaves

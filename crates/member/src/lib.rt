@@ -9,7 +9,7 @@ use order::Exclusion;
 use order::Order;
 use order::Picks;
 ghost use mathlib.Core.Path.{_≡_};
-ghost use Prim.Native.Nat.{_+_, _-_, _≤_, _<_};
+ghost use Prim.Native.Nat.{_+_, _-_, _≤_, _<_, max};
 ghost use lib.ListN.{length, take, getD};
 ghost use lib.Dec.{eqb};
 ghost use Rattle.address.specs.Here.{here};
@@ -51,6 +51,13 @@ pub struct Standing {
     pub place: usize,
     pub state: State,
     pub number: u64,
+}
+
+// The larger of two numbers.
+pub fn greater(a: u64, b: u64) -> u64
+    ensures { λ r. ⌜ r ≡ max a b ⌝ }
+{
+    if a < b { b } else { a }
 }
 
 // A place of the first n goes, and the rest closes up.
@@ -271,17 +278,25 @@ impl Members {
         }
     }
 
-    // A record at the place of its address. One that is not listed leaves the members as they came.
-    fn put(self, place: usize, member: Member) -> Members
-        requires { ⌜ Held self × (place ≡ standingOf self (member .addr) .place) × (place ≤ self .len) ⌝ }
+    // A record at the place of its address: the larger of the held and the given number, and the given state. One that is not listed leaves the members as they came.
+    fn put(self, held: Standing, member: Member) -> Members
+        requires { ⌜ Held self × (held ≡ standingOf self (member .addr)) × (held .place ≤ self .len) ⌝ }
         ensures { λ r. ⌜ r ≡ packMembers (list.update (here .same) (toMember member) (viewMembers self)) ⌝ }
     {
         let n = self.len;
+        let place = held.place;
         if place == n {
             return self;
         }
+        let addr = member.addr;
+        let state = member.state;
+        let number = greater(held.number, member.number);
         let mut table = self.table;
-        table[place] = member;
+        table[place] = Member {
+            addr,
+            state,
+            number,
+        };
         let order = self.order;
         Members {
             table,
@@ -290,16 +305,16 @@ impl Members {
         }
     }
 
-    // The record of a listed address is replaced.
+    // The record of a listed address is replaced, at the larger of the held and the given number.
     pub fn update_member(self, member: Member) -> Members
         requires { ⌜ Held self ⌝ }
         ensures { λ r. ⌜ r ≡ packMembers (list.update (here .same) (toMember member) (viewMembers self)) ⌝ }
     {
         let held = self.find(member.addr);
-        self.put(held.place, member)
+        self.put(held, member)
     }
 
-    // The number of a listed address is replaced, and its state stays.
+    // The number of a listed address is raised, and its state stays.
     pub fn raise_number(self, a: Address, number: u64) -> Members
         requires { ⌜ Held self ⌝ }
         ensures { λ r. ⌜ r ≡ packMembers (list.update (here .same) (record { addr = a; state = list.heldState (here .same) a (viewMembers self .table); number = number }) (viewMembers self)) ⌝ }
@@ -307,7 +322,7 @@ impl Members {
         let held = self.find(a);
         let state = held.state;
         self.put(
-            held.place,
+            held,
             Member {
                 addr: a,
                 state,

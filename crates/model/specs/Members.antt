@@ -3,7 +3,7 @@
 use mathlib.Core.Bool.{Bool, true, false}
 use mathlib.Core.List.{List, [], _∷_, _++_, map}
 use mathlib.Core.Option.{Option, none, some}
-use Prim.Native.Nat.{ℕ, zero, suc, _+_, _-_, _*_, _%_, min}
+use Prim.Native.Nat.{ℕ, zero, suc, _+_, _-_, _*_, _%_, min, max}
 use lib.ListN.{length, getD}
 use lib.Dec.{eqb, leb}
 use Rattle.model.specs.declared.State.{State}
@@ -89,9 +89,13 @@ module _ {A : Type 0} (same : A → A → Bool) where
         position = positionAfter (m .position) (length (erase same a (m .order)));
       }
 
+  -- "The list's update shall keep the larger of the held and the given number, and still take the given state."
+  abbrev pub merged : Member A → List (Member A) → Member A
+  merged k t = record { addr = k .addr; state = k .state; number = max (held (k .addr) t) (k .number) }
+
   -- "Update: replaces the record if listed."
   unfoldable pub update : Member A → Members A → Members A
-  update k m = record { table = put k (m .table); order = m .order; position = m .position }
+  update k m = record { table = put (merged k (m .table)) (m .table); order = m .order; position = m .position }
 
 -- what a pick gives: the addresses, in the order in which they were picked, and the members after it
 pub record Picked (A : Type 0) : Type 0 where

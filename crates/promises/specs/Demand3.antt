@@ -1,5 +1,5 @@
--- DEMAND 3, OF THE PROGRAM. Of every run of calls of `swim` from a created node and a fresh wait record at any tick, and of every address. The ledger is 01's, replayed from
--- creation's inputs and the calls alone; the nodes and the rows are those that the program was handed back.
+-- DEMAND 3, OF THE PROGRAM. Of every run of calls of `swim` from a created node and a fresh wait record at any tick, with any wait record that the host lends later, and of every
+-- address. The ledger is 01's, replayed from creation's inputs and the calls alone; the nodes and the rows are those that the program was handed back.
 -- Assumes nothing.
 use mathlib.Core.Path.{_≡_, refl, sym, _∙_, ap, subst}
 use mathlib.Core.Bool.{true, false}
@@ -20,7 +20,7 @@ use Rattle.history.specs.Ledger.{Tally, tally, begun}
 use Rattle.history.specs.Walk.{Along}
 use Rattle.history.specs.Histories.{World, Call, Receive, Step, outcome, worldOf, run, moments, trace, start}
 use Rattle.history.specs.Tells.{At, targets, Leads, saidBy, deedsIn, asked, askedBy}
-use Rattle.history.specs.Next.{Known, Left, StaysListed, NotAsked, rises-along, bounded}
+use Rattle.history.specs.Next.{Known, Left, StaysListed, rises-along, bounded}
 use Rattle.history.specs.Demand3 as model
 use Rattle.history.specs.Auditor as auditor
 use Rattle.history.specs.Auditor.{Cause, Absent, TakenOut}
@@ -48,8 +48,8 @@ pub record Account (a own : Addr) (t : Tally) (h : Held) (c : Call Addr) (s : Sa
   pub events : h′ .events ≡ rowAfter (saidBy ms) (h .events)
   pub reported : s .reported ≡ length (saidBy ms)
   -- they were asked what the call asks: each record of a message in its order, then a Ping's sender; and so on
-  pub asks : deedsIn ms ≡ askedBy here (s .reply) (asked here c (seen h) (toWait (h′ .wait) .state))
-  -- "while listed, its number never falls save at the ping-request step"; "a death notice that removes a peer carries a number no lower than any reported for it"
+  pub asks : deedsIn ms ≡ askedBy here (s .reply) (asked here c (seen h))
+  -- "while listed, its number never falls"; "a death notice that removes a peer carries a number no lower than any reported for it"
   pub fine : Along here a own ms t
   -- a step that sends a ping and then waits for the peer b sent it to b, and to nobody else
   pub pings : (now : ℕ) (ds : List ℕ) (lent : Room) (b n : ℕ) → c ≡ Step now ds lent → toWait (h .wait) .state ≡ W.SendingPing → toWait (h′ .wait) .state ≡ W.WaitingForPingAck b n → map (λ l. l .target) (s .letters) ≡ b ∷ []
@@ -112,7 +112,7 @@ account a own t h c s h′ w e m k =
       leads = subst (λ (x : M.Node Addr). Leads x (moments here c w) (viewNode (h′ .node))) start (subst (λ (x : M.Node Addr). Leads (M.loaded (w .node)) (moments here c w) x) end (k .tells .leads));
       events = v .events ∙ ap (λ (l : List (W.Gossip Addr)). rowAfter l (h .events)) (sym said);
       reported = v .reported ∙ ap length (sym said);
-      asks = k .tells .asks ∙ (λ i. askedBy here (reply i) (asked here c (e i) (waits i .state)));
+      asks = k .tells .asks ∙ (λ i. askedBy here (reply i) (asked here c (e i)));
       fine = k .fine;
       pings = λ now ds lent b n q p o.
           ap (map (λ (l : Letter). l .target)) (v .letters) ∙ targets-are (outcome here c (seen h) .outcome .messages)
@@ -149,7 +149,7 @@ module _ (settings : Settings) (own : Addr) (number tick : ℕ) (r : Answer) (me
   pub ordered : occurs (here .same) a (viewNode node .members .order) ≡ one (M.lists here a (viewNode node))
   ordered = rw (sym ends) (model.ordered here here-lawful settings own number tick _ begins cs a)
 
-  -- no number reported for a listed peer since its last entry, or the last ping-request step while listed, is above the held one
+  -- no number reported for a listed peer since its last entry is above the held one
   pub reported-held : M.lists here a (viewNode node) ≡ true → here .same own a ≡ false → ledger .top ≤ M.numbered here a (viewNode node)
   reported-held = rw (sym ends) (model.reported-held here here-lawful settings own number tick _ begins cs a)
 
@@ -176,11 +176,11 @@ module _ (settings : Settings) (own : Addr) (number tick : ℕ) (r : Answer) (me
     pub accounted : Account a own ledger before c s h′ next
     accounted = account a own ledger before c s h′ last replayed made (model.known here here-lawful settings own number tick _ begins cs a c)
 
-    -- "while listed, its number never falls save at the ping-request step": from the program's node before the call to the one after it
-    pub never-falls : StaysListed here a next → NotAsked here a next → M.lists here a (viewNode node) ≡ true → M.numbered here a (viewNode node) ≤ M.numbered here a (viewNode (h′ .node))
-    never-falls stays quiet l = rises-along here a own (viewNode node) (viewNode (h′ .node)) next ledger (accounted .leads) (accounted .fine) stays quiet l
+    -- "while listed, its number never falls": from the program's node before the call to the one after it
+    pub never-falls : StaysListed here a next → M.lists here a (viewNode node) ≡ true → M.numbered here a (viewNode node) ≤ M.numbered here a (viewNode (h′ .node))
+    never-falls stays l = rises-along here a own (viewNode node) (viewNode (h′ .node)) next ledger (accounted .leads) (accounted .fine) stays l
 
-    -- "a death notice that removes a peer carries a number no lower than any reported for it since it entered or was written back": record i of a message
+    -- "a death notice that removes a peer carries a number no lower than any reported for it since it entered": record i of a message
     pub bound : (action : W.Action Addr) (gs : List (W.Gossip Addr)) (ds : List ℕ) (lent : Room) (i : ℕ) (m : Moment Addr) (from : Addr) (n : ℕ) → c ≡ Receive action gs ds lent → At next i m → At gs i (record { event = Deceased from a n })
         → here .same own a ≡ false → Left here a m → tally here a (take i next) ledger .top ≤ n
     bound = bounded here a own ledger c last (model.known here here-lawful settings own number tick _ begins cs a c)

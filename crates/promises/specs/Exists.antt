@@ -10,7 +10,7 @@ use Rattle.address.specs.Here.{Addr, here}
 use Rattle.model.specs.Calls as calls
 use Rattle.model.specs.Sound.{inRange}
 use Rattle.history.specs.Worlds.{first-cases}
-use Rattle.history.specs.Histories.{Call, Add, Receive, Step, Timer}
+use Rattle.history.specs.Histories.{Call, Add, Receive, Step, Timer, Lends}
 use Rattle.types.specs.declared.Gossip.{Gossip}
 use Rattle.types.specs.declared.Action.{Action}
 use Rattle.types.specs.Views.{toGossip, toAction}
@@ -18,9 +18,9 @@ use Rattle.node.specs.declared.Node.{Node}
 use Rattle.node.specs.declared.Answer.{Answer}
 use Rattle.node.specs.Views.{answerOf, createdOf}
 use Rattle.wait.specs.declared.Wait.{Wait}
-use Rattle.wait.specs.Views.{fromWait}
+use Rattle.wait.specs.Views.{toWait, fromWait}
 use Rattle.swim.specs.Contracts.{Creates, room, outcomeOf, rowAfter, addOf, messageOf, stepOf, timerOf}
-use Rattle.promises.specs.Made.{Held, Said, Accepted, Made, adds, receives, steps, endsTimer}
+use Rattle.promises.specs.Made.{Held, Said, Accepted, Made, adds, receives, steps, endsTimer, lends}
 use Rattle.promises.specs.Runs.{Runs, rests, makes}
 
 pub create-exists : (settings : Settings) (own : Addr) (number : ℕ) → (r : Answer) × Creates settings own number r
@@ -31,12 +31,13 @@ pub begins-exist : (settings : Settings) (own : Addr) (number : ℕ) → inRange
 unfolding calls.create createdOf
 begins-exist settings own number s v = (createdOf (calls.create here settings own number), record { answer = refl }, rw (v, s) refl)
 
--- a call as a host makes it
+-- a call as a host makes it, or a wait record that it lends from then on
 pub data Ask : Type 0 where
   add : Addr → ℕ → List ℕ → Ask
   receive : Action → List Gossip → List ℕ → Ask
   step : ℕ → List ℕ → Ask
   endTimer : ℕ → Ask
+  lend : Wait → Ask
 
 -- and the rows that are lent for it
 pub record Turn : Type 0 where
@@ -49,6 +50,7 @@ callBy (add a n draws) gossip events = Add a n draws
 callBy (receive action rows draws) gossip events = Receive (toAction action) (map toGossip rows) draws (room gossip events)
 callBy (step tick draws) gossip events = Step tick draws (room gossip events)
 callBy (endTimer tick) gossip events = Timer tick (record { gossip = 0; events = length events })
+callBy (lend wait) gossip events = Lends (toWait wait)
 
 abbrev pub callOf : Turn → Call Addr
 callOf t = callBy (t .ask) (t .gossip) (t .events)
@@ -80,9 +82,10 @@ exists h (step tick draws) =
 exists h (endTimer tick) =
     let o = timerOf (h .node) tick (h .events) in
     record { said = _; held = _; made = endsTimer tick (outcomeOf o) (rowAfter (o .events) (h .events)) (record { answer = refl; told = refl }) }
+exists h (lend wait) = record { said = _; held = _; made = lends wait }
 
-abbrev lends : Node → Wait → Turn → Held
-lends n w t = record { node = n; wait = w; gossip = t .gossip; events = t .events }
+abbrev handed : Node → Wait → Turn → Held
+handed n w t = record { node = n; wait = w; gossip = t .gossip; events = t .events }
 
 pub record Ran (n : Node) (w : Wait) (cs : List (Call Addr)) : Type 0 where
   pub node : Node
@@ -93,7 +96,7 @@ pub record Ran (n : Node) (w : Wait) (cs : List (Call Addr)) : Type 0 where
 pub runs-exist : (n : Node) (w : Wait) (ts : List Turn) → Ran n w (map callOf ts)
 runs-exist n w [] = record { node = n; wait = w; runs = rests n w }
 runs-exist n w (t ∷ ts) =
-    let h = lends n w t in
+    let h = handed n w t in
     let x = exists h (t .ask) in
     let r = runs-exist (x .held .node) (x .held .wait) ts in
     record { node = r .node; wait = r .wait; runs = makes h (callOf t) (x .said) (x .held) (x .made) (r .runs) }

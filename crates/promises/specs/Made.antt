@@ -1,13 +1,13 @@
 -- One call that changes a node, as a program makes it: what it was given, how it ended, and what it handed back. All that is known of it is its contract.
 -- Assumes nothing.
 use mathlib.Core.Path.{_≡_}
-use mathlib.Core.List.{List, map}
+use mathlib.Core.List.{List, [], map}
 use Prim.Native.Nat.{ℕ}
 use lib.ListN.{length, take}
 use Rattle.address.specs.Here.{Addr}
 use Rattle.model.specs.declared.Reply.{Reply}
 use Rattle.model.specs.declared.Reply.the-variants.{Done}
-use Rattle.history.specs.Histories.{Call, Add, Receive, Step, Timer}
+use Rattle.history.specs.Histories.{Call, Add, Receive, Step, Timer, Lends}
 use Rattle.types.specs.declared.Gossip.{Gossip}
 use Rattle.types.specs.declared.Action.{Action}
 use Rattle.types.specs.Views.{toGossip, toAction}
@@ -15,6 +15,7 @@ use Rattle.node.specs.declared.Node.{Node}
 use Rattle.node.specs.declared.Letter.{Letter}
 use Rattle.node.specs.declared.Answer.{Answer}
 use Rattle.wait.specs.declared.Wait.{Wait}
+use Rattle.wait.specs.Views.{toWait}
 use Rattle.swim.specs.declared.Outcome.{Outcome}
 use Rattle.swim.specs.Contracts.{room, Adds, Receives, Steps, EndsTimer}
 
@@ -39,7 +40,7 @@ pub record Said : Type 0 where
 abbrev pub Accepted : Answer → Type 0
 Accepted r = r .reply ≡ Done 0
 
--- a row that a call has no use for isn't lent, and so is as it was
+-- a row that a call has no use for isn't lent, and so is as it was. Between two calls the host may put any wait record in the place of the one that it has
 pub data Made (h : Held) : Call Addr → Said → Held → Type 0 where
   adds : (a : Addr) (number : ℕ) (draws : List ℕ) (r : Answer) → Adds (h .node) a number draws r
       → Made h (Add a number draws) (record { reply = r .reply; letters = lettersOf r; reported = 0 }) (record { node = r .node; wait = h .wait; gossip = h .gossip; events = h .events })
@@ -49,3 +50,4 @@ pub data Made (h : Held) : Call Addr → Said → Held → Type 0 where
       → Made h (Step tick draws (room (h .gossip) (h .events))) (record { reply = r .answer .reply; letters = lettersOf (r .answer); reported = r .reported }) (record { node = r .answer .node; wait = wait; gossip = gossip; events = events })
   endsTimer : (tick : ℕ) (r : Outcome) (events : List Gossip) → EndsTimer (h .node) tick (h .events) r events
       → Made h (Timer tick (record { gossip = 0; events = length (h .events) })) (record { reply = r .answer .reply; letters = lettersOf (r .answer); reported = r .reported }) (record { node = r .answer .node; wait = h .wait; gossip = h .gossip; events = events })
+  lends : (wait : Wait) → Made h (Lends (toWait wait)) (record { reply = Done 0; letters = []; reported = 0 }) (record { node = h .node; wait = wait; gossip = h .gossip; events = h .events })

@@ -26,7 +26,7 @@ use Rattle.swim.specs.declared.Outcome.{Outcome}
 use Rattle.swim.specs.Contracts.{room, outcomeOf, rowAfter, Ends, Creates, Adds, Receives, Steps, EndsTimer}
 use Rattle.promises.specs.Replies.{NotDone, refusal-unkept, done-apart}
 use Rattle.promises.specs.Given.{add-table, message-table, step-table, timer-table}
-use Rattle.promises.specs.Made.{lettersOf, Held, Said, Made, adds, receives, steps, endsTimer}
+use Rattle.promises.specs.Made.{lettersOf, Held, Said, Made, adds, receives, steps, endsTimer, lends}
 
 -- nothing was sent and nothing reported
 abbrev pub idleOutcome : Reply → Node → Outcome
@@ -94,6 +94,7 @@ keeps h _ _ _ (steps tick draws r wait gossip events met) unkept =
 keeps h _ _ _ (endsTimer tick r events met) unkept =
     let b = end-timer-unkept (h .node) tick (h .events) r events met unkept in
     λ i. record { node = b .0 i .answer .node; wait = h .wait; gossip = h .gossip; events = b .1 i }
+keeps h _ _ _ (lends wait) unkept = absurd unkept
 
 unkept-draws : (z : Reply) → NotDone z → calls.drawsUsed z ≡ 0
 unkept-draws (Done used) unkept = absurd unkept
@@ -108,6 +109,7 @@ silent h _ _ _ (adds a number draws r met) unkept = refl
 silent h _ _ _ (receives action rows draws r gossip events met) unkept = λ i. receive-unkept (h .node) draws (h .gossip) (h .events) r gossip events unkept action rows met .0 i .reported
 silent h _ _ _ (steps tick draws r wait gossip events met) unkept = λ i. step-unkept (h .node) draws (h .gossip) (h .events) r gossip events unkept (h .wait) wait tick met .0 i .reported
 silent h _ _ _ (endsTimer tick r events met) unkept = λ i. end-timer-unkept (h .node) tick (h .events) r events met unkept .0 i .reported
+silent h _ _ _ (lends wait) unkept = absurd unkept
 
 -- and sends none
 sends-none : (h : Held) (c : Call Addr) (s : Said) (h′ : Held) → Made h c s h′ → NotDone (s .reply) → s .letters ≡ []
@@ -115,6 +117,7 @@ sends-none h _ _ _ (adds a number draws r met) unkept = λ i. lettersOf (add-unk
 sends-none h _ _ _ (receives action rows draws r gossip events met) unkept = λ i. lettersOf (receive-unkept (h .node) draws (h .gossip) (h .events) r gossip events unkept action rows met .0 i .answer)
 sends-none h _ _ _ (steps tick draws r wait gossip events met) unkept = λ i. lettersOf (step-unkept (h .node) draws (h .gossip) (h .events) r gossip events unkept (h .wait) wait tick met .0 i .answer)
 sends-none h _ _ _ (endsTimer tick r events met) unkept = λ i. lettersOf (end-timer-unkept (h .node) tick (h .events) r events met unkept .0 i .answer)
+sends-none h _ _ _ (lends wait) unkept = absurd unkept
 
 pub record Untouched (h h′ : Held) (s : Said) : Type 0 where
   pub held : h′ ≡ h

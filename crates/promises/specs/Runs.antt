@@ -23,7 +23,7 @@ use Rattle.node.specs.Views.{storedView, unstored, answerOf, fromMessage, noLet
 use Rattle.wait.specs.declared.Wait.{Wait}
 use Rattle.wait.specs.Views.{toWait, to-from-wait}
 use Rattle.swim.specs.Contracts.{outcomeOf, rowAfter, addOf, messageOf, stepOf, timerOf}
-use Rattle.promises.specs.Made.{lettersOf, Held, Said, Made, adds, receives, steps, endsTimer}
+use Rattle.promises.specs.Made.{lettersOf, Held, Said, Made, adds, receives, steps, endsTimer, lends}
 use Rattle.promises.specs.Refused.{nothing-written}
 
 there-and-back : {B C : Type 0} (f : B → C) (g : C → B) → ((b : B) → g (f b) ≡ b) → (l : List B) → map g (map f l) ≡ l
@@ -118,8 +118,10 @@ made-is h _ _ _ (endsTimer tick r events met) =
       events = met .told;
       reported = λ i. met .answer i .reported;
     }
+made-is h _ _ _ (lends wait) = record { world = refl; reply = refl; letters = refl; events = sym (nothing-written (h .events)); reported = refl }
 
--- a program's calls, one after the other: each takes the node and the wait record that the last one handed back, and whatever rows the host lends
+-- a program's calls, one after the other: each takes the node that the last one handed back, whatever rows the host lends, and the wait record that the last one handed back
+-- or, where the host `lends` one, that
 pub data Runs : Node → Wait → List (Call Addr) → Node → Wait → Type 0 where
   rests : (n : Node) (w : Wait) → Runs n w [] n w
   makes : {cs : List (Call Addr)} {n : Node} {w : Wait} (h : Held) (c : Call Addr) (s : Said) (h′ : Held) → Made h c s h′ → Runs (h′ .node) (h′ .wait) cs n w → Runs (h .node) (h .wait) (c ∷ cs) n w

@@ -11,7 +11,7 @@ use model::State;
 use types::Event;
 ghost use mathlib.Core.Path.{_≡_};
 ghost use mathlib.Core.Bool.{_&&_, not};
-ghost use Prim.Native.Nat.{_≤_, max};
+ghost use Prim.Native.Nat.{_≤_};
 ghost use lib.ListN.{length};
 ghost use lib.Dec.{eqb};
 ghost use Rattle.address.specs.Here.{here};
@@ -94,12 +94,6 @@ fn joined_at(members: Members, a: Address, number: u64) -> Verdict
     )
 }
 
-fn greater(a: u64, b: u64) -> u64
-    ensures { λ r. ⌜ r ≡ max a b ⌝ }
-{
-    if a < b { b } else { a }
-}
-
 // Joined: number = max(D + 1 or 0, joined).
 fn joined(members: Members, dead: Found, a: Address, number: u64) -> Verdict
     requires { ⌜ Held members ⌝ }
@@ -108,7 +102,7 @@ fn joined(members: Members, dead: Found, a: Address, number: u64) -> Verdict
     let next = death_plus_one(dead);
     match next {
         Found::Missing => Verdict::AtEnd,
-        Found::At(least) => joined_at(members, a, greater(least, number)),
+        Found::At(least) => joined_at(members, a, member::greater(least, number)),
     }
 }
 

@@ -1,5 +1,5 @@
--- One worked history: a peer comes in, is raised while a ping to it is out, is written back and suspected, dies, comes back within one message, and is taken out by the
--- time-out that still ran. After each call: what the ledger counts for the peer, and what the node lists.
+-- One worked history: a peer comes in, is raised while a ping to it is out, is suspected at the number it had and keeps its own, dies, comes back within one message, is
+-- suspected by a wait record that the host made up, and is taken out by the time-out that still ran. After each call: what the ledger counts for the peer, and what the node lists.
 -- Assumes nothing.
 use mathlib.Core.Path.{_≡_, refl}
 use mathlib.Core.Bool.{Bool, true, false}
@@ -8,7 +8,7 @@ use mathlib.Core.Option.{none}
 use Prim.Native.Nat.{ℕ}
 use Rattle.model.specs.Bounds.{message-room, step-room, timer-room}
 use Rattle.address.specs.IPv4.{ipv4}
-use Rattle.model.specs.Words.{Event, Joined, Deceased, Gossip, Ping, Ack}
+use Rattle.model.specs.Words.{Event, Joined, Deceased, Gossip, Ping, Ack, SendingPingReq}
 use Rattle.model.specs.Node.{loaded, lists, numbered}
 use Rattle.model.specs.Answers as answers
 use Rattle.model.specs.Rows as rows
@@ -25,7 +25,7 @@ use Rattle.model.specs.Detector as D
 use Rattle.model.specs.Sound as sounds
 use Rattle.model.specs.Calls as calls
 use Rattle.history.specs.Ledger.{Tally, tally, begun}
-use Rattle.history.specs.Histories.{World, Call, Add, Receive, Step, Timer, outcome, worldOf, moments, start}
+use Rattle.history.specs.Histories.{World, Call, Add, Receive, Step, Timer, Lends, outcome, worldOf, moments, start}
 use Rattle.worked.specs.Cabinet.{own, B, C, settings}
 
 -- C tells of B
@@ -41,16 +41,19 @@ day =
     ∷ Step 10 [] step-room
     -- meanwhile gossip raises it to 6
     ∷ Receive (Ack C none) (tells Joined 6 ∷ []) [] message-room
-    -- no answer: the ping-request step writes 4 back, and suspects
+    -- no answer: the ping-request step suspects it, reports 4 and leaves 6
     ∷ Step 20 [] step-room
     ∷ Step 20 [] step-room
     -- no answer either: a declaration starts
     ∷ Step 30 [] step-room
     ∷ Step 30 [] step-room
-    -- an older death notice removes nobody
-    ∷ Receive (Ack C none) (tells Deceased 3 ∷ []) [] message-room
+    -- a death notice older than the number it was raised to removes nobody
+    ∷ Receive (Ack C none) (tells Deceased 5 ∷ []) [] message-room
     -- B dies and comes back within one message of C, which comes in too
-    ∷ Receive (Ping C none) (tells Deceased 5 ∷ tells Joined 2 ∷ []) (0 ∷ 0 ∷ []) message-room
+    ∷ Receive (Ping C none) (tells Deceased 6 ∷ tells Joined 2 ∷ []) (0 ∷ 0 ∷ []) message-room
+    -- the host lends a wait record of its own making: B is suspected at 1 and keeps its number
+    ∷ Lends (record { state = SendingPingReq B 1; since = 0 })
+    ∷ Step 30 (0 ∷ 0 ∷ 0 ∷ 0 ∷ []) step-room
     -- the time-out that still ran takes it out
     ∷ Timer 40 timer-room
     -- and nothing else is over
@@ -91,13 +94,15 @@ pub worked-day : follow day (start ipv4 settings own 0 0) (begun ipv4 B own) ≡
     ∷ (counted 1 0 0 true 4)
     ∷ (counted 1 0 6 true 6)
     ∷ (counted 1 0 6 true 6)
-    ∷ (counted 1 0 4 true 4)
-    ∷ (counted 1 0 4 true 4)
-    ∷ (counted 1 0 4 true 4)
-    ∷ (counted 1 0 4 true 4)
-    ∷ (counted 2 1 6 true 6)
-    ∷ (counted 2 2 6 false 0)
-    ∷ (counted 2 2 6 false 0)
+    ∷ (counted 1 0 6 true 6)
+    ∷ (counted 1 0 6 true 6)
+    ∷ (counted 1 0 6 true 6)
+    ∷ (counted 1 0 6 true 6)
+    ∷ (counted 2 1 7 true 7)
+    ∷ (counted 2 1 7 true 7)
+    ∷ (counted 2 1 7 true 7)
+    ∷ (counted 2 2 7 false 0)
+    ∷ (counted 2 2 7 false 0)
     ∷ []
 unfolding answers.when rows.swap limit.leastFrom limit.leastPower limit.limitOf size.varintFrom size.varintLength size.numberSize size.sizeOver size.sizeOf ipv4.digits ipv4.textLength words.partsOf words.sameGossip heap.climbIn heap.climb heap.lower heap.downIn heap.down heap.push heap.sinkTop heap.removeTop heap.allBelow choosing.termsOf choosing.wasNoted choosing.takeTop choosing.tryHeap choosing.tryAlive choosing.tryDeceased choosing.over choosing.rounds choosing.choose choosing.orElse choosing.death list.shuffle list.advance list.added list.add list.remove list.update list.seek list.pickFrom M.quiet M.andMore M.pushed M.emit M.change M.leave M.spread M.loaded M.stored M.fresh handler.joinedAt handler.joined handler.recovered handler.believed handler.suspectedOther handler.suspected handler.deceased handler.judgeSender handler.listAfter handler.newsOf handler.act handler.item handler.admit handler.acked handler.answerTo handler.forwarded handler.handle D.isOver D.due D.pinged D.sendPing D.heard D.waited D.suspect D.asked D.pickGroup D.sendPingReq D.declare D.firstOver D.ended D.endAt sounds.inRange sounds.positioned sounds.validGossip sounds.soundEntry sounds.soundHeap sounds.soundMembers sounds.soundTimers sounds.sound calls.create calls.addPeer calls.validAction calls.validState calls.message calls.detect calls.endTimer
 worked-day = refl

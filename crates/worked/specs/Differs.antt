@@ -206,6 +206,9 @@ wrongs =
     ∷ (wrong.greatestDeath is-not death ipv4 seen (λ p (s : Node ℕ). look.ofOption (p B (s .disseminator .deceased))) at buriedTwice yet-at buried)
     -- list and order
     ∷ (wrong.updateAdds is-not update eqb seen (λ p a. look.ofMembers (p (member a state.Alive 1) (withB state.Alive 0 .members))) at C yet-at B)
+    ∷ (wrong.keepsTheSmaller is-not update eqb seen (λ p n. look.ofMembers (p (member B state.Suspected n) (withB state.Pending 5 .members))) at 4 yet-at 5)
+    ∷ (wrong.keepsTheStateToo is-not update eqb seen (λ p n. look.ofMembers (p (member B state.Suspected n) (withB state.Pending 5 .members))) at 4 yet-at 6)
+    ∷ (wrong.raisesAnEqual is-not update eqb seen (λ p n. look.ofMembers (p (member B state.Suspected n) (withB state.Pending 5 .members))) at 5 yet-at 6)
     ∷ (wrong.eachPickedOnce is-not pickFrom eqb 0
     seen (λ p wanted. look.ofAnswer look.ofPicked (p own none wanted (beforeC .members) (2 ∷ 0 ∷ []))) at 2 yet-at 1)
     ∷ (wrong.neverAdvances is-not pickFrom eqb 0
@@ -216,6 +219,7 @@ wrongs =
     ∷ (wrong.deathForgotten is-not ruleOf Joined seen (λ p s. ofRule (p B 2) s (0 ∷ [])) at buried yet-at alone)
     ∷ (wrong.raisedToAlive is-not ruleOf Joined seen (λ p st. ofRule (p B 5) (withB st 4) []) at state.Suspected yet-at state.Alive)
     ∷ (wrong.recoveredAtAnEqual is-not ruleOf Recovered seen (λ p n. ofRule (p B n) (withB state.Suspected 4) []) at 4 yet-at 5)
+    ∷ (wrong.olderRecoveryTaken is-not ruleOf Recovered seen (λ p n. ofRule (p B n) (withB state.Suspected 4) []) at 3 yet-at 5)
     ∷ (wrong.recoveredKeepsTheState is-not ruleOf Recovered seen (λ p st. ofRule (p B 5) (withB st 4) []) at state.Suspected yet-at state.Alive)
     ∷ (wrong.ownRecordMoved is-not ruleOf Suspected seen (λ p a. ofRule (p a 0) (withB state.Alive 0) []) at own yet-at B)
     ∷ (wrong.ownIsSpared is-not ruleOf Deceased seen (λ p a. ofRule (p a 0) (withB state.Alive 0) []) at own yet-at B)
@@ -234,9 +238,7 @@ wrongs =
     ∷ (wrong.staysInDeclaring is-not declare ipv4 seen (λ p s. ofDetector (p B 4 20) s) at alone yet-at timersFull)
     -- what demand 3 shuts out
     ∷ (wrong.enteredTwice is-not added eqb seen (λ p d. look.ofMembers (p C 0 d (withB state.Alive 0 .members))) at 0 yet-at 1)
-    ∷ (wrong.olderRecoveryTaken is-not ruleOf Recovered seen (λ p n. ofRule (p B n) (withB state.Suspected 4) []) at 3 yet-at 5)
-    ∷ (wrong.heldNumberWritten is-not suspect ipv4 seen (λ p n. ofRule (p B n) (withB state.Pending 5) []) at 4 yet-at 5)
-    ∷ (wrong.zeroWritten is-not suspect ipv4 seen (λ p n. ofRule (p B n) (withB state.Pending 5) []) at 4 yet-at 0)
+    ∷ (wrong.writesBack is-not suspect ipv4 seen (λ p n. ofRule (p B n) (withB state.Pending 5) []) at 4 yet-at 5)
     ∷ (wrong.pingedElsewhere is-not pinged ipv4 seen (λ p picks. look.ofStepped (p 20 [] (withB state.Alive 0) picks)) at (B ∷ []) yet-at [])
     ∷ (wrong.suspicionRemoves is-not ruleOf Suspected seen (λ p n. ofRule (p B n) (withB state.Alive 4) []) at 4 yet-at 3)
     ∷ (wrong.olderDeathTaken is-not ruleOf Deceased seen (λ p n. ofRule (p B n) (withB state.Alive 4) []) at 3 yet-at 2)

@@ -4,11 +4,12 @@
 use mathlib.Core.Bool.{Bool, true, false, not, _&&_}
 use mathlib.Core.List.{List, [], _∷_, _++_}
 use mathlib.Core.Option.{Option, none, some}
-use Prim.Native.Nat.{ℕ, zero, suc, _+_, _-_, _*_, _%_, _^_, max}
+use Prim.Native.Nat.{ℕ, zero, suc, _+_, _-_, _*_, _%_, _^_, min, max}
 use lib.ListN.{length, getD, set, replicate, take, drop}
 use lib.Dec.{eqb, ltb, leb}
 use Rattle.model.specs.declared.Kind.{Kind}
 use Rattle.model.specs.declared.Kind.the-variants as kind
+use Rattle.model.specs.declared.State.{State}
 use Rattle.model.specs.declared.State.the-variants as state
 use Rattle.model.specs.declared.Cause.{Cause}
 use Rattle.model.specs.declared.Cause.the-variants.{Record, Sender}
@@ -257,6 +258,24 @@ updateAdds k m =
     (list.update eqb k m)
     (record { table = m .table ++ (k ∷ []); order = m .order ++ (k .addr ∷ []); position = m .position })
 
+-- an update that puts k's address at a state and a number of its own choice
+abbrev putAt : Member ℕ → State → ℕ → list.Members ℕ → list.Members ℕ
+putAt k st n m = record { table = list.put eqb (record { addr = k .addr; state = st; number = n }) (m .table); order = m .order; position = m .position }
+
+-- the smaller of the held and the given number is kept
+abbrev pub keepsTheSmaller : Member ℕ → list.Members ℕ → list.Members ℕ
+keepsTheSmaller k m = putAt k (k .state) (min (list.held eqb (k .addr) (m .table)) (k .number)) m
+
+-- where the number is kept, the state is kept too
+abbrev pub keepsTheStateToo : Member ℕ → list.Members ℕ → list.Members ℕ
+keepsTheStateToo k m =
+    pick (ltb (list.held eqb (k .addr) (m .table)) (k .number)) (list.update eqb k m)
+    (putAt k (list.heldState eqb (k .addr) (m .table)) (list.held eqb (k .addr) (m .table)) m)
+
+-- an equal number is raised
+abbrev pub raisesAnEqual : Member ℕ → list.Members ℕ → list.Members ℕ
+raisesAnEqual k m = pick (eqb (list.held eqb (k .addr) (m .table)) (k .number)) (putAt k (k .state) (k .number + 1) m) (list.update eqb k m)
+
 -- a look at the one in hand: `over` says whom a look passes over, given those picked so far
 abbrev pub seekOver : (List ℕ → ℕ → Bool) → ℕ → ℕ → List ℕ → list.Members ℕ → List ℕ → Answer (list.Picked ℕ)
 seekOver over f zero got m ds = done (record { picks = got; members = m }) ds
@@ -309,6 +328,13 @@ raisedToAlive a n s ds =
 abbrev pub recoveredAtAnEqual : ℕ → ℕ → Node ℕ → List ℕ → Answer (Out ℕ)
 recoveredAtAnEqual a n s ds =
     when (lists ipv4 a s && leb (numbered ipv4 a s) n)
+    (emit ipv4 kind.Alive (record { event = Recovered (s .own) a n }) (change ipv4 a state.Alive n s) ds)
+    (quiet s ds)
+
+-- any number recovers
+abbrev pub olderRecoveryTaken : ℕ → ℕ → Node ℕ → List ℕ → Answer (Out ℕ)
+olderRecoveryTaken a n s ds =
+    when (lists ipv4 a s)
     (emit ipv4 kind.Alive (record { event = Recovered (s .own) a n }) (change ipv4 a state.Alive n s) ds)
     (quiet s ds)
 
@@ -403,19 +429,9 @@ enteredTwice a n d m =
       position = after .position;
     }
 
--- any number recovers
-abbrev pub olderRecoveryTaken : ℕ → ℕ → Node ℕ → List ℕ → Answer (Out ℕ)
-olderRecoveryTaken a n s ds =
-    when (lists ipv4 a s)
-    (emit ipv4 kind.Alive (record { event = Recovered (s .own) a n }) (change ipv4 a state.Alive n s) ds)
-    (quiet s ds)
-
--- the ping-request step writes the held number, or 0, in place of the one taken with the ping
-abbrev pub heldNumberWritten : ℕ → ℕ → Node ℕ → List ℕ → Answer (Out ℕ)
-heldNumberWritten a n s ds = suspect ipv4 a (numbered ipv4 a s) s ds
-
-abbrev pub zeroWritten : ℕ → ℕ → Node ℕ → List ℕ → Answer (Out ℕ)
-zeroWritten a n s ds = suspect ipv4 a 0 s ds
+-- the ping-request step writes the remembered number back, below the held one
+abbrev pub writesBack : ℕ → ℕ → Node ℕ → List ℕ → Answer (Out ℕ)
+writesBack a n s ds = emit ipv4 kind.Alive (record { event = Suspected (s .own) a n }) (withMembers s (putAt (record { addr = a; state = state.Suspected; number = n }) state.Suspected n (s .members))) ds
 
 -- the ping goes to another than the wait record names
 abbrev pub pingedElsewhere : ℕ → List (Gossip ℕ) → Node ℕ → List ℕ → Stepped ℕ

@@ -2,6 +2,7 @@
 use std::io::{self, BufRead};
 
 use super::coverage::{Coverage, Seen};
+use super::domain::Outside;
 use super::host::{Host, Outcome};
 use super::lines::Lines;
 use super::script::{self, Call, Line};
@@ -46,8 +47,12 @@ pub fn cover(input: impl BufRead) -> io::Result<bool> {
 /// Runs a call and counts it; `false` if it left the domain.
 fn observe(coverage: &mut Coverage, host: &mut Host, call: &Call) -> bool {
     let before = host.state();
-    let Outcome::Inside(answer) = host.call(call) else {
-        return false;
+    let answer = match host.call(call) {
+        Outcome::Inside(answer) => answer,
+        Outcome::Outside { why, .. } => {
+            coverage.lowered(why == Outside::Lowered);
+            return false;
+        }
     };
     coverage.observe(&Seen {
         settings: &host.settings,

@@ -50,6 +50,16 @@ impl Coverage {
         Ok(())
     }
 
+    /// A call that is outside the domain.
+    pub fn outside(&mut self) {
+        self.count("outside: call", true);
+    }
+
+    /// A call that lowers a number, the first of its node or a later one.
+    pub fn lowered(&mut self, first: bool) {
+        self.count("outside: node whose ping request lowered a number", first);
+    }
+
     pub fn line_wait(&mut self) {
         self.count("line wait", true);
     }

@@ -1,9 +1,10 @@
-//! The edge of the domain in which the published code is the judge: no refusal is met and the list is never emptied.
+//! The edge of the domain in which the published code is the judge: no refusal is met, the list is never emptied and no
+//! number is lowered.
 //! Past it the answers are the port's own, so the oracle says only that the edge was passed.
 use rand::Lent;
 
 use super::script::{Call, Creation, Rows, Settings};
-use super::words::{Address, Gossips, Kind, Packet, Record, Wait, ADDRESS_LIMIT};
+use super::words::{Address, Gossips, Kind, Member, Packet, Record, Wait, ADDRESS_LIMIT};
 
 pub const MOST_LISTED: usize = 64;
 pub const MOST_HELD: usize = 128;
@@ -17,6 +18,8 @@ pub enum Outside {
     Refusal(u8),
     /// The list was emptied.
     Emptied,
+    /// A listed peer's number was lowered.
+    Lowered,
 }
 
 /// What the published code did in one call.
@@ -123,4 +126,14 @@ pub fn check_trace(trace: &Trace) -> Result<(), Outside> {
         true => Ok(()),
         false => Err(Outside::Emptied),
     }
+}
+
+/// Whether a listed peer has a lower number after a step. A ping request writes the number that the wait record
+/// remembers, which may be below the held one; no other update of the published code can lower a number.
+pub fn lowers(before: &[Member], after: &[Member]) -> bool {
+    let falls = |held: &Member| {
+        let now = after.iter().find(|member| member.address == held.address);
+        now.is_some_and(|member| member.number < held.number)
+    };
+    before.iter().any(falls)
 }

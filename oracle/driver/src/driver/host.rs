@@ -120,7 +120,8 @@ impl Host {
             let why = Outside::Refusal(10);
             return Outcome::Outside { why, ran: None };
         }
-        self.run(draws, |host| {
+        let (_, members) = self.bench.members();
+        let outcome = self.run(draws, |host| {
             let before = host.wait.phase;
             let (after, parked) = host.bench.step(&before);
             host.wait = Wait {
@@ -132,7 +133,15 @@ impl Host {
             }
             expect_slept(wait);
             Ran::Ok
-        })
+        });
+        match outcome {
+            Outcome::Inside(answer) if domain::lowers(&members, &self.bench.members().1) => {
+                let why = Outside::Lowered;
+                let ran = Some(answer);
+                Outcome::Outside { why, ran }
+            }
+            outcome => outcome,
+        }
     }
 
     fn timer(&mut self, now: u32) -> Outcome {

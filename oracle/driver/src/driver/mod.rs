@@ -10,6 +10,7 @@ mod datagram;
 mod domain;
 mod gen;
 mod host;
+mod inside;
 mod lines;
 mod overflow;
 mod packets;
@@ -34,7 +35,8 @@ use words::Packet;
 const USAGE: &str = "\
 usage: oracle run [quiet]            answer the script on standard input
        oracle past [quiet]           the same, and go on past the domain's edge as the published code does
-       oracle gen SEED NODES CALLS   write a random script inside the domain; its coverage goes to standard error
+       oracle gen SEED NODES CALLS   write a random script; its coverage goes to standard error
+       oracle inside                 write the script on standard input without the calls outside the domain
        oracle bytes SEED LINES       write a random script of read and write lines; what it comes to goes to standard error
        oracle encode                 write the read line, with prost's bytes, of each message on standard input
        oracle decode                 write the message that prost reads in each line of bytes on standard input
@@ -83,6 +85,7 @@ fn play(words: &[&str]) -> Option<io::Result<bool>> {
         ["past", "quiet"] => run_script(true, true),
         ["gen", seed, nodes, calls] => generate(seed, nodes, calls),
         ["bytes", seed, lines] => generate_bytes(seed, lines),
+        ["inside"] => inside::inside(io::stdin().lock(), buffered_output()),
         ["cover"] => cover::cover(io::stdin().lock()),
         ["time"] => time::time(io::stdin().lock(), buffered_output()),
         _ => return None,

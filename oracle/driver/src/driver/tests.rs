@@ -141,6 +141,18 @@ fn refused_creations_are_outside() {
 }
 
 #[test]
+fn a_lowered_number_is_outside() {
+    let raised = "add 2 5 | 0\nstep 10 |\nack 3 - j:3:2:6 |\nstep 20 |\nstep 20 |";
+    assert!(is_outside(raised));
+    let suspected = |wait: &str| format!("add 2 5 | 0\nwait req {wait} 0\nstep 0 |");
+    assert!(is_outside(&suspected("2 4")));
+    // at the held number, above it, and of a peer that is not listed
+    for wait in ["2 5", "2 6", "9 0"] {
+        assert!(!is_outside(&suspected(wait)), "{wait}");
+    }
+}
+
+#[test]
 fn short_rows_are_outside() {
     for (rows, call) in [
         ("63 65", "ack 2 - |"),

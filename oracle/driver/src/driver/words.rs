@@ -103,15 +103,19 @@ pub struct Wait {
 }
 
 impl Phase {
-    /// The address the record holds; SendingPing holds none.
-    pub fn address(&self) -> Option<Address> {
+    /// The peer the record holds, with its number; SendingPing holds none.
+    pub fn peer(&self) -> Option<Peer> {
         match self {
             Phase::SendingPing => None,
             Phase::WaitingForPingAck(peer)
             | Phase::SendingPingReq(peer)
             | Phase::WaitingForPingReqAck(peer)
-            | Phase::Declaring(peer) => Some(peer.address),
+            | Phase::Declaring(peer) => Some(*peer),
         }
+    }
+
+    pub fn address(&self) -> Option<Address> {
+        self.peer().map(|peer| peer.address)
     }
 }
 

@@ -10,7 +10,7 @@ use Rattle.member.proofs.Members.raise_number.Statement.{statement}
 use Rattle.member.proofs.Members.raise_number.Tie as tie
 
 put-requires : tie.Need-put-requires
-put-requires c κs = (c .before .pre, ap (λ (x : Standing). x .place) (c .find .ensures .0), c .find .ensures .1)
+put-requires c κs = (c .before .pre, c .find .ensures .0, c .find .ensures .1)
 
 returns : tie.Need-returns
 returns c =

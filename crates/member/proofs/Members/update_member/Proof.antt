@@ -1,13 +1,11 @@
 -- `member::Members::update_member` meets its contract: the record at the place of its address.
 -- Assumes nothing.
-use mathlib.Core.Path.{ap}
 use borrow.Author.Needs.{needs}
-use Rattle.member.specs.declared.Standing.{Standing}
 use Rattle.member.proofs.Members.update_member.Statement.{statement}
 use Rattle.member.proofs.Members.update_member.Tie as tie
 
 put-requires : tie.Need-put-requires
-put-requires c κs = (c .before .pre, ap (λ (x : Standing). x .place) (c .find .ensures .0), c .find .ensures .1)
+put-requires c κs = (c .before .pre, c .find .ensures .0, c .find .ensures .1)
 
 pub update-member-spec : {M : Type 1} → statement M
 update-member-spec = tie.close (tie.spec (λ c κs. search needs) put-requires (λ c. search needs))

@@ -1,18 +1,21 @@
-//! Whether a call surely stays inside the domain. It errs on the safe side: a call it turns down might have stayed inside.
-use crate::driver::coverage::is_listed;
+//! Whether a call surely stays inside the domain, or leaves it by a lowered number where that is asked for. It errs on the
+//! safe side: a call it turns down might have stayed inside.
+use crate::driver::coverage::{is_listed, member};
 use crate::driver::domain::{MOST_HELD, MOST_LISTED, MOST_TIMERS};
 use crate::driver::host::State;
 use crate::driver::script::Call;
-use crate::driver::words::{Address, Kind, Packet, PacketKind, Phase, Record};
+use crate::driver::words::{Address, Kind, Packet, PacketKind, Peer, Phase, Record};
 
-pub fn fits(call: &Call, state: &State, own: Address) -> bool {
+pub fn fits(call: &Call, state: &State, own: Address, may_lower: bool) -> bool {
     match call {
         Call::Add { peer, .. } => {
             is_listed(state, peer.address) || state.members.len() < MOST_LISTED
         }
         Call::Message { packet, .. } => message_fits(packet, state, own),
         Call::Step { .. } => match state.wait.phase {
-            Phase::SendingPingReq(_) => state.alive.len() < MOST_HELD,
+            Phase::SendingPingReq(peer) => {
+                state.alive.len() < MOST_HELD && (may_lower || !lowers(state, peer))
+            }
             Phase::Declaring(_) => state.timers.len() < MOST_TIMERS,
             _ => true,
         },
@@ -26,6 +29,11 @@ pub fn fits(call: &Call, state: &State, own: Address) -> bool {
             state.deceased.len() < MOST_HELD && !empties
         }
     }
+}
+
+/// Whether a ping request writes a number below the held one.
+fn lowers(state: &State, peer: Peer) -> bool {
+    member(state, peer.address).is_some_and(|held| peer.number < held.number)
 }
 
 fn message_fits(packet: &Packet, state: &State, own: Address) -> bool {

@@ -1,5 +1,6 @@
-//! The verb `gen`: random scripts that stay inside the domain. The published code runs alongside, so that each call
-//! can be fitted to the state it meets; the same seed gives the same script.
+//! The verb `gen`: random scripts that stay inside the domain, but for some nodes' last calls, which leave it where the
+//! published code lowers a number. The published code runs alongside, so that each call can be fitted to the state it
+//! meets; the same seed gives the same script.
 mod fits;
 mod propose;
 mod world;
@@ -7,6 +8,7 @@ mod world;
 use std::io::{self, Write};
 
 use super::coverage::{Coverage, Seen};
+use super::domain::Outside;
 use super::host::{Answer, Host, Outcome, State, Verdict};
 use super::rng::Rng;
 use super::script::{Call, Line, Rows};
@@ -18,6 +20,9 @@ const PLENTY: usize = 256;
 
 /// How often proposals in one mood may be turned down.
 const TRIES: usize = 10;
+
+/// One call in so many, the last ones of a node, may lower a number.
+const LATE: u64 = 12;
 
 /// Writes a script of `nodes` nodes and `calls` calls in all, and returns what it reaches.
 pub fn generate(out: &mut impl Write, seed: u64, nodes: u64, calls: u64) -> io::Result<Coverage> {
@@ -38,6 +43,10 @@ struct NodeRun {
     world: World,
     host: Host,
     state: State,
+    /// A number may be lowered from now on.
+    is_late: bool,
+    /// A number was lowered: this call and those after it are outside the domain.
+    is_outside: bool,
 }
 
 impl NodeRun {
@@ -51,6 +60,8 @@ impl NodeRun {
             world,
             host,
             state,
+            is_late: false,
+            is_outside: false,
         }
     }
 
@@ -63,7 +74,14 @@ impl NodeRun {
         writeln!(out, "{}", Line::New(self.world.creation))?;
         let mut mood = Mood::Grow;
         let mut stretch = self.rng.between(0, 12);
-        for _ in 0..calls {
+        for left in (0..calls).rev() {
+            if !self.is_late && left <= calls / LATE {
+                self.is_late = true;
+                if self.rng.chance(75) {
+                    mood = Mood::Overtake;
+                    stretch = left + 1;
+                }
+            }
             if stretch == 0 {
                 mood = *self.rng.pick(&MOODS);
                 stretch = self.stretch(mood);
@@ -79,7 +97,7 @@ impl NodeRun {
     /// Heaps fill in a few calls; sends and timers rise slowly.
     fn stretch(&mut self, mood: Mood) -> u64 {
         match mood {
-            Mood::News | Mood::Reap => self.rng.between(2, 6),
+            Mood::News | Mood::Reap | Mood::Overtake => self.rng.between(2, 6),
             Mood::Deaths => self.rng.between(2, 10),
             Mood::Grow | Mood::Probe | Mood::Chat => self.rng.between(3, 25),
             Mood::Spread => self.rng.between(5, 40),
@@ -122,6 +140,14 @@ impl NodeRun {
         set_draws(&mut call, &draws);
         let answer = match self.host.call(&call) {
             Outcome::Inside(answer) => answer,
+            Outcome::Outside {
+                why: Outside::Lowered,
+                ran: Some(answer),
+            } => {
+                coverage.lowered(!self.is_outside);
+                self.is_outside = true;
+                answer
+            }
             Outcome::Outside { why, .. } => {
                 panic!("a generated call is outside the domain: {why:?} {call:?}")
             }
@@ -130,14 +156,17 @@ impl NodeRun {
         set_draws(&mut call, &draws[..kept]);
 
         let before = std::mem::replace(&mut self.state, self.host.state());
-        coverage.observe(&Seen {
-            settings: &self.world.creation.settings,
-            own: self.world.own(),
-            call: &call,
-            before: &before,
-            answer: &answer,
-            after: &self.state,
-        });
+        match self.is_outside {
+            true => coverage.outside(),
+            false => coverage.observe(&Seen {
+                settings: &self.world.creation.settings,
+                own: self.world.own(),
+                call: &call,
+                before: &before,
+                answer: &answer,
+                after: &self.state,
+            }),
+        }
         call
     }
 
@@ -146,7 +175,7 @@ impl NodeRun {
         for mood in [mood, Mood::Chat] {
             for _ in 0..TRIES {
                 let call = self.proposer().call(mood);
-                if fits::fits(&call, &self.state, self.world.own()) {
+                if fits::fits(&call, &self.state, self.world.own(), self.is_late) {
                     return call;
                 }
             }

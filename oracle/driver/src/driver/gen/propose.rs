@@ -24,6 +24,8 @@ pub enum Mood {
     Silence,
     /// End timers.
     Reap,
+    /// Raise the number of whoever is awaited, and step on without an answer, so that a ping request lowers it.
+    Overtake,
     /// Anything.
     Chat,
 }
@@ -63,7 +65,23 @@ impl Proposer<'_> {
             Mood::Silence => self.due_step(),
             Mood::Reap if self.state.timers.is_empty() => self.due_step(),
             Mood::Reap => self.timer(),
+            Mood::Overtake => self.overtaking(),
             Mood::Chat => self.anything(),
+        }
+    }
+
+    /// News of the awaited peer with a number above the remembered one, and a step once it is held.
+    fn overtaking(&mut self) -> Call {
+        let awaited = self.state.wait.phase.peer();
+        let behind = awaited.filter(|peer| self.held_number(peer.address) <= peer.number);
+        match behind {
+            Some(peer) if is_listed(self.state, peer.address) => {
+                let kind = *self.rng.pick(&[Kind::Joined, Kind::Suspected]);
+                let number = peer.number.saturating_add(self.rng.between(1, 3));
+                let gossip = vec![Some(self.record(kind, peer.address, number))];
+                self.any_message(gossip)
+            }
+            _ => self.due_step(),
         }
     }
 
