@@ -78,7 +78,7 @@ function prepare(kind, members,    i) {
     call("step 10", 0)
     print "wait ping 0"
   }
-  if (kind ~ /await/) call("ack " peer(2) " - s:" peer(2) ":" peer(1) ":5", 0)
+  if (kind ~ /await/ || kind == "timer") call("ack " peer(2) " - s:" peer(2) ":" peer(1) ":5", 0)
   if (kind == "step-await-ack") print "wait ack " peer(1) " 5 0"
   if (kind == "step-req") print "wait req " peer(1) " 5 0"
   if (kind == "step-await-reqack") print "wait reqack " peer(1) " 5 0"

@@ -9,6 +9,8 @@ use native.Mathlib.Omega.{arith}
 use lib.ListN.{length, getD}
 use borrow.Author.Tests.{not-false}
 use Rattle.model.specs.declared.Cause.{Cause}
+use Rattle.model.specs.declared.Fate.{Fate}
+use Rattle.model.specs.declared.Fate.the-variants.{Leaves, Stays, Absent}
 use Rattle.model.specs.Rows.{every}
 use Rattle.laws.specs.Bools.{and-split}
 use Rattle.model.specs.Answers.{Answer, done, refused, andThen}
@@ -18,12 +20,12 @@ use Rattle.model.specs.Members.{Members, Picked, pickFrom}
 use Rattle.model.specs.Node.{Node, Out, Effect, loaded, stored, withMembers, andMore, quiet, lists, spread}
 use Rattle.model.specs.Handler.{item, gossip, admit, acked, answerTo, forwarded, handle}
 use Rattle.model.specs.Detector as D
-use Rattle.model.specs.Detector.{Stepped, pinged, sendPing, due, firstOver, endAt}
+use Rattle.model.specs.Detector.{Stepped, pinged, sendPing, due, firstOver, fateAt, endAt}
 use Rattle.model.specs.Sound.{validGossip}
 use Rattle.laws_node.specs.Good.{Good, loaded-stored}
 use Rattle.laws_rules.specs.Keeps.{Keeps, add-keeps}
 use Rattle.laws_rules.specs.KeepsCalls.{handle-keeps, step-keeps, end-keeps, first-over-in}
-use Rattle.model.specs.Calls.{Outcome, StepOutcome, refuses, orAlready, whenDue, kept, keptMessage, keptStep, joins, addTests, messageTests, stepTests, timerTests, addPeer, message, detect, endsAt, endTimer, validAction, validState}
+use Rattle.model.specs.Calls.{Outcome, StepOutcome, refuses, orAlready, whenDue, kept, keptMessage, keptStep, keptEnd, joins, addTests, messageTests, stepTests, timerTests, addPeer, message, detect, endsAt, endTimer, validAction, validState}
 use Rattle.history.specs.Moments.{Deed, Told, Sender, Added, Other, Moment, moment, silent, stepped, traceThen, traceGossip, traceSpread, traceAdmit, traceAck, traceMessage, traceStep, traceAdd, traceTimer, endedDeed}
 use Rattle.history.specs.Histories.{World, Call, Add, Receive, Step, Timer, Lends, outcome, endingAt, momentsBy, moments}
 use Rattle.history.specs.Tells.{targets, PingGoes, Leads, saidBy, deedsIn, Tells, records, messageDeeds, timerDeeds, askedBy, deedsOf}
@@ -199,12 +201,19 @@ module _ {A : Type 0} (address : Address A) (lawful : Lawful address) (s : Node 
   add-passes b n ds halts = none-said seen
   add-passes b n ds (gives {b = m} q) = kept-as (q .good) (silently (Added b n) seen (withMembers seen m))
 
+  end-passes : (v : Fate) (ms : List (Moment A)) (d : List (Deed A)) {x : Answer (Effect A)} → After (λ e. Keeps address seen (e .node) × Tells seen ms (e .node) (e .events) d) x
+      → Passes (momentsBy address (keptEnd address (stored address s) v x .reply) ms []) d (keptEnd address (stored address s) v x)
+  end-passes v ms d halts = none-said seen
+  end-passes Leaves ms d (gives {b = e} q) = kept-as (q .0 .good) (q .1)
+  end-passes Stays ms d (gives {b = e} q) = kept-as (q .0 .good) (q .1)
+  end-passes Absent ms d (gives {b = e} q) = kept-as (q .0 .good) (q .1)
+
   timer-passes : (o : Option ℕ) → ((i : ℕ) → o ≡ some i → i < length (seen .timers))
       → Passes (momentsBy address (endsAt address (stored address s) o .reply) (endingAt address o seen) []) (timerDeeds address o seen) (endsAt address (stored address s) o)
   timer-passes none h = none-said seen
   timer-passes (some i) h =
       let t = getD (seen .timers) i (noTimer address) in
-      effect-passes [] (traceTimer address i seen) [] (endedDeed address t ∷ [])
+      end-passes (fateAt address i seen) (traceTimer address i seen) (endedDeed address t ∷ [])
       (after-then
       (after-both (λ o x y. (x, y)) (end-keeps address lawful i seen [] good (h i refl)) (one (endedDeed address t) seen (endAt address i seen [])))
       (λ o rest q. gives q))

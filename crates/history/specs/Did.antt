@@ -7,17 +7,17 @@ use Prim.Native.Nat.{ℕ, _+_, _≤_, _<_, max}
 use native.Mathlib.Omega.{arith}
 use lib.ListN.{length}
 use lib.Dec.{leb}
-use borrow.Author.Tests.{leb-true, lt-ltb, le-ltb}
+use borrow.Author.Tests.{leb-true, lt-ltb, le-ltb, not-true}
 use Rattle.model.specs.declared.State.the-variants.{Alive}
 use Rattle.model.specs.Rows.{one, pick, has}
 use Rattle.laws.specs.Bools.{and-split}
-use Rattle.model.specs.Words.{Address, Lawful, Member, Deceased}
+use Rattle.model.specs.Words.{Address, Lawful, isAlive, partsOf, Member, Nothing, Joined, Recovered, Suspected, Deceased}
 use Rattle.model.specs.Members.{Members, addrs, listed, held, added, remove, merged, update, strike, put}
-use Rattle.model.specs.Node.{Node, Out, lists, numbered}
+use Rattle.model.specs.Node.{Node, Out, lists, numbered, stateOf}
 use Rattle.laws_list.specs.Whole.{Whole, added-whole, remove-whole, update-whole, strike-addrs, addrs-append}
 use Rattle.laws_list.specs.Held.{has-append, held-old, held-new, has-put, has-erase, held-put, held-put-other, held-strike}
-use Rattle.history.specs.Moments.{Deed, Told, Moment, momentOf}
-use Rattle.history.specs.Ledger.{Tally, inside, comes, goes, reported, step}
+use Rattle.history.specs.Moments.{Deed, Told, Sender, Added, Ended, Other, Moment, momentOf}
+use Rattle.history.specs.Ledger.{Tally, inside, comes, goes, carried, reported, step}
 
 -- the ledger keeps pace: l and l′ say whether the address is listed before and after, g whether it goes and c whether it comes
 counts : (l l′ g c : Bool) (e d : ℕ) → e ≡ d + one l → (l ≡ true → l′ ≡ not g) → (l ≡ false → l′ ≡ c)
@@ -37,6 +37,9 @@ tops true l′ true x r n n′ e q h p u = omega (arith, p refl, u refl)
 tops true l′ false x r n n′ e q h p u = omega (arith, p refl, u refl)
 tops false l′ true x r n n′ e q h p u = omega arith
 tops false l′ false x r n n′ e q h p u = let z : _≡_ {A = ℕ} 0 1 = cc (q refl) in absurd (omega arith)
+
+no-departure : {B : Type 0} → _≡_ {A = Bool} false true → B
+no-departure e = let z : _≡_ {A = ℕ} 0 1 = cc in absurd (omega arith)
 
 module _ {A : Type 0} (address : Address A) (a : A) where
   -- what a rule did to the address, whatever the ledger says
@@ -63,6 +66,11 @@ module _ {A : Type 0} (address : Address A) (a : A) where
     pub bound : (f : A) (n : ℕ) → m .deed ≡ Told (Deceased f a n) → address .same own a ≡ false → inside t ≡ true → goes address a (m .deed) (m .before) ≡ true → t .top ≤ n
     -- nor lower than the held one: an older message removes nobody
     pub no-older : (f : A) (n : ℕ) → m .deed ≡ Told (Deceased f a n) → goes address a (m .deed) (m .before) ≡ true → numbered address a (m .before) ≤ n
+    -- a peer that is Alive is removed by no timer, nor one whose number is greater than the timer's
+    pub no-alive : (n : ℕ) → m .deed ≡ Ended a n → goes address a (m .deed) (m .before) ≡ true → isAlive (stateOf address a (m .before)) ≡ false
+    pub no-late : (n : ℕ) → m .deed ≡ Ended a n → goes address a (m .deed) (m .before) ≡ true → numbered address a (m .before) ≤ n
+    -- so no departure carries a number below the held one
+    pub no-lower : goes address a (m .deed) (m .before) ≡ true → numbered address a (m .before) ≤ carried address a (m .deed)
     -- an address that was listed leaves at a departure of the ledger, and at nothing else
     pub leaves : lists address a (m .before) ≡ true → lists address a (m .after) ≡ not (goes address a (m .deed) (m .before))
     -- who is listed before and after it: the ledger says so
@@ -75,6 +83,25 @@ module _ {A : Type 0} (address : Address A) (a : A) where
         | true ↦ λ e. lt-ltb (t .departures) (t .entries) (omega arith)
         | false ↦ λ e. le-ltb (t .departures) (t .entries) (omega arith)
       ]) (k .count)
+
+  -- a timer that removes: its address is not Alive, and at no greater number
+  pub timed : (b : A) (n : ℕ) (s : Node A) → goes address a (Ended b n) s ≡ true → (isAlive (stateOf address a s) ≡ false) × (numbered address a s ≤ n)
+  timed b n s h =
+      let still = not (isAlive (stateOf address a s)) in
+      let v = and-split still (leb (numbered address a s) n) (and-split (address .same a b) (still && leb (numbered address a s) n) h .1) in
+      (not-true _ (v .0), leb-true (numbered address a s) n (v .1))
+
+  no-less : (d : Deed A) (s : Node A) → goes address a d s ≡ true → numbered address a s ≤ carried address a d
+  unfolding partsOf
+  no-less (Told Nothing) s h = no-departure h
+  no-less (Told (Joined f b n)) s h = no-departure h
+  no-less (Told (Recovered f b n)) s h = no-departure h
+  no-less (Told (Suspected f b n)) s h = no-departure h
+  no-less (Told (Deceased f b n)) s h = leb-true (numbered address a s) n (and-split (address .same a b) (leb (numbered address a s) n) h .1)
+  no-less (Sender b) s h = no-departure h
+  no-less (Added b n) s h = no-departure h
+  no-less (Ended b n) s h = timed b n s h .1
+  no-less Other s h = no-departure h
 
   pub next : (own : A) (s : Node A) (d : Deed A) (o : Out A) (t : Tally) → Kept own s t → Did s d o
       → Kept own (o .node) (step address a (momentOf d s o) t) × Fine own t (momentOf d s o)
@@ -95,6 +122,9 @@ module _ {A : Type 0} (address : Address A) (a : A) where
           rises = λ p q. f .rises (sym i ∙ p) (sym (inside-is kept) ∙ q);
           bound = λ g n e q p h. omega (arith, k .low (sym i ∙ p) q, older g n e h);
           no-older = older;
+          no-alive = λ n e h. timed a n s (ap (λ (x : Deed A). goes address a x s) (sym e) ∙ h) .0;
+          no-late = λ n e h. timed a n s (ap (λ (x : Deed A). goes address a x s) (sym e) ∙ h) .1;
+          no-lower = no-less d s;
           leaves = f .was;
           before = i;
           after = inside-is kept;

@@ -5,7 +5,7 @@ use mathlib.Core.List.{List, [], _∷_, _++_}
 use mathlib.Core.Option.{Option, none, some}
 use Prim.Native.Nat.{ℕ}
 use Rattle.model.specs.declared.Reply.{Reply}
-use Rattle.model.specs.declared.Reply.the-variants.{Done, Already, NotDue, Refused, RefusedAt}
+use Rattle.model.specs.declared.Reply.the-variants.{Done, Already, NotDue, Refuted, Gone, Refused, RefusedAt}
 use Rattle.model.specs.declared.Settings.{Settings}
 use Rattle.model.specs.Bounds.{Room}
 use Rattle.model.specs.Words.{Address, Gossip, Action, Wait, SendingPing}
@@ -64,11 +64,13 @@ module _ {A : Type 0} (address : Address A) where
   idleOf (Timer now lent) s = []
   idleOf (Lends wait) s = []
 
-  -- "Refused calls drop out"; where nothing was due, nothing ran
+  -- "Refused calls drop out"; where nothing was due, nothing ran. A timer that ended without a removal ran
   abbrev pub momentsBy : Reply → List (Moment A) → List (Moment A) → List (Moment A)
   momentsBy (Done used) ran idle = ran
   momentsBy Already ran idle = idle
   momentsBy NotDue ran idle = []
+  momentsBy Refuted ran idle = ran
+  momentsBy Gone ran idle = ran
   momentsBy (Refused r) ran idle = []
   momentsBy (RefusedAt r at) ran idle = []
 

@@ -1,13 +1,13 @@
--- 01's ledger of one address: a fold over the moments. It reads of a moment what was asked and, of the replay, the held number; it never
--- reads the list.
+-- 01's ledger of one address: a fold over the moments. It reads of a moment what was asked and, of the replay, the held number and the held state; it never
+-- reads who is listed.
 -- Assumes nothing.
 use mathlib.Core.Bool.{Bool, false, not, _&&_}
 use mathlib.Core.List.{List, [], _∷_}
 use Prim.Native.Nat.{ℕ, _+_, max}
 use lib.Dec.{ltb, leb}
 use Rattle.model.specs.Rows.{one, pick}
-use Rattle.model.specs.Words.{Address, Event, Nothing, Joined, Recovered, Suspected, Deceased, Gossip}
-use Rattle.model.specs.Node.{Node, numbered}
+use Rattle.model.specs.Words.{Address, isAlive, partsOf, Event, Nothing, Joined, Recovered, Suspected, Deceased, Gossip}
+use Rattle.model.specs.Node.{Node, numbered, stateOf}
 use Rattle.history.specs.Moments.{Deed, Told, Sender, Added, Ended, Other, Moment}
 
 pub record Tally : Type 0 where
@@ -36,7 +36,7 @@ module _ {A : Type 0} (address : Address A) (a : A) where
   comes (Ended b n) = false
   comes Other = false
 
-  -- "Departures: Deceased gossip while listed with a number ≥ the held one; an ended timer while listed."
+  -- "Departures: Deceased gossip while listed with a number ≥ the held one; an ended timer while listed", "not Alive, and its number is no greater than the timer's"
   abbrev pub kills : Event A → Node A → Bool
   kills Nothing s = false
   kills (Joined f b n) s = false
@@ -48,8 +48,16 @@ module _ {A : Type 0} (address : Address A) (a : A) where
   goes (Told e) s = kills e s
   goes (Sender b) s = false
   goes (Added b n) s = false
-  goes (Ended b n) s = address .same a b
+  goes (Ended b n) s = address .same a b && (not (isAlive (stateOf address a s)) && leb (numbered address a s) n)
   goes Other s = false
+
+  -- the number that a notice or a timer carries
+  abbrev pub carried : Deed A → ℕ
+  carried (Told e) = partsOf address e .number
+  carried (Sender b) = 0
+  carried (Added b n) = n
+  carried (Ended b n) = n
+  carried Other = 0
 
   -- ""Reported" means the number in an event that a kept call reported for that address."
   abbrev pub about : Event A → ℕ

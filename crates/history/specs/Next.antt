@@ -8,7 +8,7 @@ use Prim.Native.Nat.{ℕ, zero, suc, _≤_}
 use native.Mathlib.Omega.{arith}
 use lib.ListN.{take}
 use Rattle.model.specs.declared.Reply.{Reply}
-use Rattle.model.specs.declared.Reply.the-variants.{Done, Already}
+use Rattle.model.specs.declared.Reply.the-variants.{Done, Already, Refuted, Gone}
 use Rattle.model.specs.Bounds.{Room}
 use Rattle.model.specs.Words.{Address, Lawful, Event, Deceased, Gossip, Action, Ping, PingReq, Ack}
 use Rattle.model.specs.Node.{Node, loaded, lists, numbered}
@@ -87,6 +87,8 @@ module _ {A : Type 0} (address : Address A) (a : A) where
   pub at-asked : (r : Reply) (ds : List (Deed A)) (i : ℕ) (d : Deed A) → At (askedBy address r ds) i d → At ds i d
   at-asked (Done used) ds i d p = p
   at-asked Already ds i d p = p
+  at-asked Refuted ds i d p = p
+  at-asked Gone ds i d p = p
 
   module _ (own : A) (t : Tally) (c : Call A) (w : World A) (known : Known own t c w) where
     -- record i of a message is what its moment i was asked

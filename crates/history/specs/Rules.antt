@@ -1,27 +1,29 @@
 -- What each rule of the handler and the detector does to one address.
 -- Assumes nothing.
 use mathlib.Core.Path.{_≡_, refl, ap, _∙_}
-use mathlib.Core.Bool.{Bool, true, false, _&&_}
+use mathlib.Core.Bool.{Bool, true, false, not, _&&_}
 use mathlib.Core.List.{List, [], _∷_}
 use mathlib.Core.Option.{Option}
 use Prim.Native.Nat.{ℕ, _≤_, _<_, max}
 use native.Mathlib.Omega.{arith}
-use lib.ListN.{length, getD}
+use lib.ListN.{length}
 use lib.Dec.{leb}
 use borrow.Author.Tests.{leb-false, le-leb, lt-leb}
 use Rattle.model.specs.declared.Kind.{Kind}
 use Rattle.model.specs.declared.Kind.the-variants as kind
 use Rattle.model.specs.declared.State.{State}
 use Rattle.model.specs.declared.State.the-variants as state
+use Rattle.model.specs.declared.Fate.{Fate}
 use Rattle.model.specs.Rows.{pick, removeAt}
 use Rattle.model.specs.Answers.{Answer, done}
+use Rattle.laws.specs.Bools.{and-join}
 use Rattle.laws.specs.After.{After, halts, gives, after-map, after-when, after-draw, after-then}
-use Rattle.model.specs.Words.{Address, Lawful, Event, Nothing, Joined, Recovered, Suspected, Deceased, Gossip, Timer, noTimer, partsOf}
-use Rattle.model.specs.Members.{Members, added, add, remove, update}
+use Rattle.model.specs.Words.{Address, Lawful, isAlive, Event, Nothing, Joined, Recovered, Suspected, Deceased, Gossip, Timer, partsOf}
+use Rattle.model.specs.Members.{Members, added, add, update}
 use Rattle.model.specs.Node.{Disseminator, Node, Out, withMembers, withDisseminator, withTimers, quiet, pushed, emit, lists, numbered, stateOf, heldDeath, change, leave}
 use Rattle.model.specs.Handler.{Verdict, Enter, Raise, Recover, Suspect, Bury, Refute, Emits, listAfter, newsOf, act, item, admit, acked}
-use Rattle.model.specs.Detector.{suspect, ended, endAt}
-use Rattle.laws_rules.specs.Judged.{Judged, skipped, joined-at-end, joined-low, joined-raises, joined-enters, recovered-unknown, recovered-low, recovered-recovers, own-at-end, own-refutes, suspected-unknown, suspected-equal, suspected-low, suspected-suspects, deceased-unknown, deceased-low, deceased-buries, judged, SenderJudged, listed-already, sender-at-end, sender-enters, sender-judged}
+use Rattle.model.specs.Detector.{suspect, byFate, timerAt, fateAt, endAt}
+use Rattle.laws_rules.specs.Judged.{Judged, skipped, joined-at-end, joined-low, joined-raises, joined-enters, recovered-unknown, recovered-low, recovered-recovers, own-at-end, own-refutes, suspected-unknown, suspected-equal, suspected-low, suspected-suspects, deceased-unknown, deceased-low, deceased-buries, judged, SenderJudged, listed-already, sender-at-end, sender-enters, sender-judged, Fated, fated-leaves, fated-alive, fated-greater, fated-absent, fated}
 use Rattle.laws_list.specs.Whole.{Whole}
 use Rattle.history.specs.Moments.{Deed, Told, Sender, Added, Other, endedDeed}
 use Rattle.history.specs.Ledger.{comes, goes, about, reported}
@@ -29,6 +31,10 @@ use Rattle.history.specs.Did.{Did, stay, put-did, came-did, gone-did}
 
 pub never : {B : Type 0} → _≡_ {A = Bool} false true → B
 never e = let z : _≡_ {A = ℕ} 0 1 = cc in absurd (omega arith)
+
+and-false : (u : Bool) {v : Bool} → v ≡ false → (u && v) ≡ false
+and-false true e = e
+and-false false e = refl
 
 module _ {A : Type 0} (address : Address A) (lawful : Lawful address) (a : A) where
   -- what an event says of the address, and of another
@@ -58,9 +64,6 @@ module _ {A : Type 0} (address : Address A) (lawful : Lawful address) (a : A) wh
         | true ↦ λ e. let z : address .same x y ≡ true = ap (address .same x) (lawful .test .same-eq y x e) ∙ lawful .test .same-refl x in cc
         | false ↦ λ e. refl
       ]) refl
-
-  same-number : (b : A) (s : Node A) → address .same a b ≡ true → numbered address a s ≡ numbered address b s
-  same-number b s q = ap (λ (x : A). numbered address x s) (lawful .test .same-eq a b q)
 
   abbrev pub Runs : Node A → Deed A → Answer (Out A) → Type 0
   Runs s d x = After (Did address a s d) x
@@ -107,31 +110,38 @@ module _ {A : Type 0} (address : Address A) (lawful : Lawful address) (a : A) wh
       (λ q. rw r (said-at b n q))
       (λ q. rw r (said-off b n q))))
 
-  -- a death that the rule takes is a departure of its address, and of no other
-  departs : (b : A) (n : ℕ) (s : Node A) → leb (numbered address b s) n ≡ true → (address .same a b && leb (numbered address a s) n) ≡ address .same a b
-  departs b n s h =
-      (elim (address .same a b) as (λ u. address .same a b ≡ u → (u && leb (numbered address a s) n) ≡ u) [
-        | true ↦ λ q. rw (same-number b s q) h
+  -- a death that the rule takes is a departure of its address, and of no other: f says of an address whether the rule takes it
+  departs : (b : A) (f : A → Bool) → f b ≡ true → (address .same a b && f a) ≡ address .same a b
+  departs b f h =
+      (elim (address .same a b) as (λ u. address .same a b ≡ u → (u && f a) ≡ u) [
+        | true ↦ λ q. ap f (lawful .test .same-eq a b q) ∙ h
         | false ↦ λ q. refl
       ]) refl
 
-  -- and one that it leaves is none: its address is another, or its number is too low
-  not-it : (b : A) (n : ℕ) (s : Node A) → address .same a b ≡ false → (address .same a b && leb (numbered address a s) n) ≡ false
-  not-it b n s q = rw q refl
+  -- and one that it leaves is none: its address is another, or it does not take that one
+  not-it : (b : A) (f : A → Bool) → address .same a b ≡ false → (address .same a b && f a) ≡ false
+  not-it b f q = rw q refl
 
-  too-low : (b : A) (n : ℕ) (s : Node A) → n < numbered address b s → (address .same a b && leb (numbered address a s) n) ≡ false
-  too-low b n s h =
-      (elim (address .same a b) as (λ u. address .same a b ≡ u → (u && leb (numbered address a s) n) ≡ false) [
-        | true ↦ λ q. rw (same-number b s q) (lt-leb (numbered address b s) n h)
+  spares : (b : A) (f : A → Bool) → f b ≡ false → (address .same a b && f a) ≡ false
+  spares b f h =
+      (elim (address .same a b) as (λ u. address .same a b ≡ u → (u && f a) ≡ false) [
+        | true ↦ λ q. ap f (lawful .test .same-eq a b q) ∙ h
         | false ↦ λ q. refl
       ]) refl
+
+  -- the rule takes an address by its number, and a timer by its state too
+  abbrev reached : ℕ → Node A → A → Bool
+  reached n s b = leb (numbered address b s) n
+
+  abbrev timedOut : ℕ → Node A → A → Bool
+  timedOut n s b = not (isAlive (stateOf address b s)) && leb (numbered address b s) n
 
   -- a listed address is taken out
   bury-did : (f b : A) (n : ℕ) (s : Node A) (ds : List ℕ) → Whole (address .same) (s .members) → lists address b s ≡ true → numbered address b s ≤ n → Runs s (Told (Deceased f b n)) (act address (Bury b n) s ds)
   unfolding act listAfter newsOf
   bury-did f b n s ds w l h =
       emit-did kind.Deceased _ s _ (Told (Deceased f b n)) ds
-      (λ x. gone-did address a lawful b s (Told (Deceased f b n)) _ w refl refl l (departs b n s (le-leb (numbered address b s) n h)) refl (said-off b n))
+      (λ x. gone-did address a lawful b s (Told (Deceased f b n)) _ w refl refl l (departs b (reached n s) (le-leb (numbered address b s) n h)) refl (said-off b n))
 
   -- the own address answers a suspicion
   refute-did : (f b : A) (n next : ℕ) (s : Node A) (ds : List ℕ) → Whole (address .same) (s .members) → Runs s (Told (Suspected f b n)) (act address (Refute next) s ds)
@@ -160,8 +170,8 @@ module _ {A : Type 0} (address : Address A) (lawful : Lawful address) (a : A) wh
   judged-did _ _ s x ds w (suspected-low {f = f} {a = b} {n = n} o l h) = idle s (Told (Suspected f b n)) ds w (λ _. refl) (λ _. refl)
   judged-did _ _ s x ds w (suspected-suspects {f = f} {a = b} {n = n} o l h) =
       updated-did b n state.Suspected (Suspect b n) (Suspected (s .own) b n) s (Told (Suspected f b n)) ds refl refl refl w refl (λ _. refl)
-  judged-did _ _ s x ds w (deceased-unknown {f = f} {a = b} {n = n} l) = idle s (Told (Deceased f b n)) ds w (λ p. not-it b n s (absent b s l p)) (λ _. refl)
-  judged-did _ _ s x ds w (deceased-low {f = f} {a = b} {n = n} l h) = idle s (Told (Deceased f b n)) ds w (λ _. too-low b n s h) (λ _. refl)
+  judged-did _ _ s x ds w (deceased-unknown {f = f} {a = b} {n = n} l) = idle s (Told (Deceased f b n)) ds w (λ p. not-it b (reached n s) (absent b s l p)) (λ _. refl)
+  judged-did _ _ s x ds w (deceased-low {f = f} {a = b} {n = n} l h) = idle s (Told (Deceased f b n)) ds w (λ _. spares b (reached n s) (lt-leb (numbered address b s) n h)) (λ _. refl)
   judged-did _ _ s x ds w (deceased-buries {f = f} {a = b} {n = n} l h) = bury-did f b n s ds w l h
 
   pub item-did : (e : Event A) (s : Node A) (ds : List ℕ) → Whole (address .same) (s .members) → Runs s (Told e) (item address e s ds)
@@ -205,25 +215,27 @@ module _ {A : Type 0} (address : Address A) (lawful : Lawful address) (a : A) wh
       → Did address a s Other o
   other-did s o w t m q = stay address a lawful s Other o w t m (λ _. refl) (λ _. refl) (λ _ _. omega (arith, ap (reported address a) q))
 
-  -- an ended timer
-  ended-did : (t : Timer A) (ts : List (Timer A)) (s : Node A) (ds : List ℕ) → Whole (address .same) (s .members)
-      → Runs s (endedDeed address t) (ended address t (withTimers s ts) ds)
-  unfolding ended leave
-  ended-did t ts s ds w =
-      (elim (lists address (t .addr) s) as (λ u. lists address (t .addr) s ≡ u → Runs s (endedDeed address t)
-      (emit address kind.Deceased (record { event = Deceased (s .own) (t .addr) (t .number) })
-      (pick u (withMembers (withTimers s ts) (remove (address .same) (t .addr) (s .members))) (withTimers s ts)) ds)) [
-        | true ↦ λ e. emit-did kind.Deceased _ s _ (endedDeed address t) ds
-            (λ _. gone-did address a lawful (t .addr) s (endedDeed address t) _ w refl refl e refl refl (said-off (t .addr) (t .number)))
-        | false ↦ λ e. emit-did kind.Deceased _ s _ (endedDeed address t) ds
-            (λ _. stay address a lawful s (endedDeed address t) _ w refl refl (absent (t .addr) s e) (λ _. refl)
-            (λ _ l. omega (arith, said-off (t .addr) (t .number) (absent (t .addr) s e l))))
-      ]) refl
+  -- an ended timer, by the fate of its address
+  stays-did : (t : Timer A) (ts : List (Timer A)) (s : Node A) (ds : List ℕ) → Whole (address .same) (s .members) → (lists address a s ≡ true → goes address a (endedDeed address t) s ≡ false)
+      → Runs s (endedDeed address t) (quiet (withTimers s ts) ds)
+  unfolding quiet
+  stays-did t ts s ds w g = gives (stay address a lawful s (endedDeed address t) (record { node = withTimers s ts; said = [] }) w refl refl g (λ _. refl) (λ _ _. omega arith))
 
-  pub timer-did : (i : ℕ) (s : Node A) (ds : List ℕ) → Whole (address .same) (s .members)
-      → Runs s (endedDeed address (getD (s .timers) i (noTimer address))) (endAt address i s ds)
+  fate-did : (t : Timer A) (v : Fate) (ts : List (Timer A)) (s : Node A) (ds : List ℕ) → Whole (address .same) (s .members) → Fated address t (s .members .table) v
+      → Runs s (endedDeed address t) (byFate address v t (withTimers s ts) ds)
+  unfolding byFate leave
+  fate-did t _ ts s ds w (fated-leaves l e h) =
+      emit-did kind.Deceased _ s _ (endedDeed address t) ds
+      (λ _. gone-did address a lawful (t .addr) s (endedDeed address t) _ w refl refl l
+      (departs (t .addr) (timedOut (t .number) s) (and-join (ap not e) (le-leb (numbered address (t .addr) s) (t .number) h))) refl (said-off (t .addr) (t .number)))
+  fate-did t _ ts s ds w (fated-alive l e) = stays-did t ts s ds w (λ _. spares (t .addr) (timedOut (t .number) s) (rw e refl))
+  fate-did t _ ts s ds w (fated-greater l h) =
+      stays-did t ts s ds w (λ _. spares (t .addr) (timedOut (t .number) s) (and-false (not (isAlive (stateOf address (t .addr) s))) (lt-leb (numbered address (t .addr) s) (t .number) h)))
+  fate-did t _ ts s ds w (fated-absent l) = stays-did t ts s ds w (λ p. not-it (t .addr) (timedOut (t .number) s) (absent (t .addr) s l p))
+
+  pub timer-did : (i : ℕ) (s : Node A) (ds : List ℕ) → Whole (address .same) (s .members) → Runs s (endedDeed address (timerAt address i s)) (endAt address i s ds)
   unfolding endAt
-  timer-did i s ds w = ended-did (getD (s .timers) i (noTimer address)) (removeAt (s .timers) i) s ds w
+  timer-did i s ds w = fate-did (timerAt address i s) (fateAt address i s) (removeAt (s .timers) i) s ds w (fated address (timerAt address i s) (s .members .table))
 
   pub add-did : (b : A) (n : ℕ) (s : Node A) (ds : List ℕ) → Whole (address .same) (s .members) → lists address b s ≡ false
       → After (λ m. Did address a s (Added b n) (record { node = withMembers s m; said = [] })) (add (address .same) b n (s .members) ds)

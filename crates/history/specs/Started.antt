@@ -5,21 +5,23 @@ use mathlib.Core.Bool.{Bool, true, false}
 use mathlib.Core.List.{List, [], _∷_, _++_, append-nil, append-assoc}
 use mathlib.Core.Option.{Option, none, some}
 use Prim.Native.Nat.{ℕ, zero, suc, _<_}
-use lib.ListN.{length, getD}
+use lib.ListN.{length}
 use borrow.Author.Tests.{not-false}
 use Rattle.model.specs.declared.Cause.{Cause}
 use Rattle.model.specs.declared.Reply.{Reply}
-use Rattle.model.specs.declared.Reply.the-variants.{Done, Already, NotDue, Refused, RefusedAt}
+use Rattle.model.specs.declared.Fate.{Fate}
+use Rattle.model.specs.declared.Fate.the-variants.{Leaves, Stays, Absent}
+use Rattle.model.specs.declared.Reply.the-variants.{Done, Already, NotDue, Refuted, Gone, Refused, RefusedAt}
 use Rattle.model.specs.declared.Settings.{Settings}
 use Rattle.model.specs.declared.Kind.{Kind}
 use Rattle.model.specs.declared.Kind.the-variants as kind
 use Rattle.model.specs.Rows.{pick, every, removeAt}
 use Rattle.laws.specs.Bools.{and-split}
 use Rattle.model.specs.Answers.{Answer, done, refused, andThen}
-use Rattle.laws.specs.After.{After, halts, gives, after-map, after-when, after-then, after-both}
-use Rattle.model.specs.Words.{Address, Lawful, Event, Deceased, Gossip, Message, Action, Ping, PingReq, Ack, Timer, Wait, WaitState, SendingPing, WaitingForPingAck, SendingPingReq, WaitingForPingReqAck, Declaring, noTimer}
+use Rattle.laws.specs.After.{After, halts, gives, after-when, after-then, after-both}
+use Rattle.model.specs.Words.{Address, Lawful, Event, Deceased, Gossip, Message, Action, Ping, PingReq, Ack, Timer, Wait, WaitState, SendingPing, WaitingForPingAck, SendingPingReq, WaitingForPingReqAck, Declaring}
 use Rattle.model.specs.Members.{Members, Picked, pickFrom}
-use Rattle.model.specs.Node.{Node, Out, Effect, Stored, loaded, stored, fresh, withMembers, withTimers, andMore, quiet, pushed, emit, lists, change, leave, spread}
+use Rattle.model.specs.Node.{Node, Out, Effect, Stored, loaded, stored, fresh, withMembers, andMore, quiet, pushed, emit, lists, change, leave, spread}
 use Rattle.model.specs.Handler as handler
 use Rattle.model.specs.Detector as D
 use Rattle.model.specs.Detector.{Stepped}
@@ -53,6 +55,8 @@ module _ {A : Type 0} (address : Address A) where
   ifKept (Done used) ts = ts
   ifKept Already ts = []
   ifKept NotDue ts = []
+  ifKept Refuted ts = ts
+  ifKept Gone ts = ts
   ifKept (Refused r) ts = []
   ifKept (RefusedAt r at) ts = []
 
@@ -191,9 +195,15 @@ module _ {A : Type 0} (address : Address A) where
   step-starts (WaitingForPingReqAck a n) now s ds = gives (sym (append-nil (s .timers)))
   step-starts (Declaring a n) now s ds = after-when (λ _. halts) (λ _. gives refl)
 
+  fate-alone : (v : Fate) (t : Timer A) (s : Node A) → Alone (s .timers) (D.byFate address v t s [])
+  unfolding D.byFate leave
+  fate-alone Leaves t s = emit-alone kind.Deceased _ _ []
+  fate-alone Stays t s = quiet-alone s []
+  fate-alone Absent t s = quiet-alone s []
+
   end-removes : (i : ℕ) (s : Node A) → Alone (removeAt (s .timers) i) (D.endAt address i s [])
-  unfolding D.endAt D.ended leave
-  end-removes i s = after-map (λ o e. e ∙ picked-alone (lists address (getD (s .timers) i (noTimer address) .addr) s) (withTimers s (removeAt (s .timers) i)) _) (emit-alone kind.Deceased _ _ [])
+  unfolding D.endAt
+  end-removes i s = fate-alone (D.fateAt address i s) (D.timerAt address i s) (D.freed address i s)
 
 module _ {A : Type 0} (address : Address A) (lawful : Lawful address) (s : Node A) (w : Wait A) (g : Good address s) where
   abbrev seen : Node A
@@ -240,10 +250,14 @@ module _ {A : Type 0} (address : Address A) (lawful : Lawful address) (s : Node 
   add-follows b n ds halts = stayed []
   add-follows b n ds (gives {b = m} q) = kept-follows [] (withMembers seen m) (q .good) (same-within refl)
 
+  end-follows : (v : Fate) {x : Answer (Effect A)} → After (λ e. Keeps address seen (e .node) × Within (e .node .timers) (seen .timers ++ [])) x → Follows [] (calls.keptEnd address (stored address s) v x)
+  end-follows v halts = stayed []
+  end-follows v (gives {b = e} q) = kept-follows [] (e .node) (q .0 .good) (q .1)
+
   timer-follows : (o : Option ℕ) → ((i : ℕ) → o ≡ some i → i < length (seen .timers)) → Follows [] (calls.endsAt address (stored address s) o)
   timer-follows none h = stayed []
   timer-follows (some i) h =
-      effect-follows []
+      end-follows (D.fateAt address i seen)
       (after-then
       (after-both (λ o x y. (x, subst (λ (ts : List (Timer A)). Within ts (seen .timers ++ [])) (sym y) (within-trans (within-removed (seen .timers) i) (within-front (seen .timers) []))))
       (end-keeps address lawful i seen [] good (h i refl)) (end-removes address i seen))

@@ -6,7 +6,7 @@ use mathlib.Core.Option.{Option, none, some}
 use Prim.Native.Nat.{ℕ, zero, suc}
 use lib.ListN.{getD}
 use Rattle.model.specs.declared.Reply.{Reply}
-use Rattle.model.specs.declared.Reply.the-variants.{Done, Already, NotDue, Refused, RefusedAt}
+use Rattle.model.specs.declared.Reply.the-variants.{Done, Already, NotDue, Refuted, Gone, Refused, RefusedAt}
 use Rattle.model.specs.Bounds.{Room}
 use Rattle.model.specs.Words.{Address, Message, Gossip, Action, Ping, PingReq, Ack, SendingPing, WaitingForPingAck, noTimer}
 use Rattle.model.specs.Node.{Node, loaded}
@@ -78,6 +78,8 @@ module _ {A : Type 0} (address : Address A) where
   askedBy (Done used) ds = ds
   askedBy Already ds = ds
   askedBy NotDue ds = []
+  askedBy Refuted ds = ds
+  askedBy Gone ds = ds
   askedBy (Refused r) ds = []
   askedBy (RefusedAt r at) ds = []
 

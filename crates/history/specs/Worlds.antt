@@ -11,6 +11,8 @@ use borrow.Author.Tests.{not-false}
 use Rattle.model.specs.declared.Cause.{Cause}
 use Rattle.model.specs.declared.Refusal.{Refusal}
 use Rattle.model.specs.declared.Settings.{Settings}
+use Rattle.model.specs.declared.Fate.{Fate}
+use Rattle.model.specs.declared.Fate.the-variants.{Leaves, Stays, Absent}
 use Rattle.model.specs.Rows.{one, pick, every}
 use Rattle.laws.specs.Bools.{and-split}
 use Rattle.model.specs.Answers.{Answer, done, andThen}
@@ -18,12 +20,12 @@ use Rattle.laws.specs.After.{After, halts, gives, after-then, after-both}
 use Rattle.model.specs.Words.{Address, Lawful, Wait, SendingPing, noTimer}
 use Rattle.model.specs.Members.{Members}
 use Rattle.model.specs.Node.{Node, Effect, Stored, loaded, stored, fresh, withMembers, lists}
-use Rattle.model.specs.Detector.{Stepped, step as stepRule, due, firstOver}
+use Rattle.model.specs.Detector.{Stepped, step as stepRule, due, firstOver, fateAt}
 use Rattle.model.specs.Sound.{inRange, validGossip}
 use Rattle.laws_node.specs.Good.{Good, loaded-stored}
 use Rattle.laws_rules.specs.Keeps.{Keeps, add-keeps}
 use Rattle.laws_rules.specs.KeepsCalls.{handle-keeps, step-keeps, end-keeps, first-over-in, fresh-good}
-use Rattle.model.specs.Calls.{Outcome, StepOutcome, firstOf, refuses, orAlready, whenDue, kept, keptMessage, keptStep, joins, addTests, messageTests, stepTests, timerTests, addPeer, message, detect, endsAt, endTimer, validAction, validState}
+use Rattle.model.specs.Calls.{Outcome, StepOutcome, firstOf, refuses, orAlready, whenDue, kept, keptMessage, keptStep, keptEnd, joins, addTests, messageTests, stepTests, timerTests, addPeer, message, detect, endsAt, endTimer, validAction, validState}
 use Rattle.history.specs.Moments.{Moment, Added, moment, silent, traceAdd, traceMessage, traceStep, traceTimer, endedDeed}
 use Rattle.history.specs.Ledger.{Tally, tally, begun}
 use Rattle.history.specs.Did.{Did, Kept}
@@ -111,13 +113,20 @@ module _ {A : Type 0} (address : Address A) (lawful : Lawful address) (a : A) wh
         let v = one-step address a own seen (Added b n) (record { node = seen; said = [] }) t counted-so-far (already-did address lawful a b n seen (good .whole) e) in
         record { stands = stands s w g (rw (sym seen-is) (v .kept)); fine = v .fine }
 
+    end-went : (v : Fate) (ms : List (Moment A)) {x : Answer (Effect A)} → After (λ e. Keeps address seen (e .node) × Walked address a own t ms (e .node)) x
+        → Went own t (momentsBy address (keptEnd address (stored address s) v x .reply) ms []) (record { node = keptEnd address (stored address s) v x .node; wait = w })
+    end-went v ms halts = stayed
+    end-went Leaves ms (gives {b = e} q) = record { stands = stands (e .node) w (q .0 .good) (q .1 .kept); fine = q .1 .fine }
+    end-went Stays ms (gives {b = e} q) = record { stands = stands (e .node) w (q .0 .good) (q .1 .kept); fine = q .1 .fine }
+    end-went Absent ms (gives {b = e} q) = record { stands = stands (e .node) w (q .0 .good) (q .1 .kept); fine = q .1 .fine }
+
     -- a timer ended, or none was over
     timer-went : (o : Option ℕ) → ((i : ℕ) → o ≡ some i → i < length (seen .timers))
         → Went own t (momentsBy address (endsAt address (stored address s) o .reply) (endingAt address o seen) []) (record { node = endsAt address (stored address s) o .node; wait = w })
     timer-went none h = stayed
     timer-went (some i) h =
         let d = endedDeed address (getD (seen .timers) i (noTimer address)) in
-        effect-went [] (traceTimer address i seen) []
+        end-went (fateAt address i seen) (traceTimer address i seen)
         (after-then
         (after-both (λ o x y. (x, y)) (end-keeps address lawful i seen [] good (h i refl)) (one-moment address a own seen d t counted-so-far (timer-did address lawful a i seen [] (good .whole))))
         (λ o rest q. gives q))

@@ -10,10 +10,13 @@ use lib.Dec.{eqb, ltb, leb}
 use borrow.Author.Tests.{ltb-true, ltb-false, leb-true, leb-false, eqb-true, eqb-false}
 use Rattle.model.specs.declared.State.{State}
 use Rattle.model.specs.declared.State.the-variants as state
+use Rattle.model.specs.declared.Fate.{Fate}
+use Rattle.model.specs.declared.Fate.the-variants.{Leaves, Stays, Absent}
 use Rattle.model.specs.Rows.{pick}
-use Rattle.model.specs.Words.{Address, isAlive, Member, Event, Nothing, Joined, Recovered, Suspected, Deceased}
+use Rattle.model.specs.Words.{Address, isAlive, Member, Timer, Event, Nothing, Joined, Recovered, Suspected, Deceased}
 use Rattle.model.specs.Members.{listed, held, heldState}
 use Rattle.model.specs.Node.{plusOne, deathPlusOne}
+use Rattle.model.specs.Detector.{fateOf}
 use Rattle.model.specs.Handler.{Verdict, Skip, Unknown, Equal, Low, AtEnd, Refute, Enter, Raise, Recover, Suspect, Bury, believed, orEnd, joinedAt, joined, recovered, suspectedOther, suspected, deceased, judge, judgeSender}
 
 -- a choice, by its test
@@ -144,3 +147,31 @@ module _ {A : Type 0} (address : Address A) (own : A) (t : List (Member A)) (d :
   sender-judged a =
       pick-case (SenderJudged a) (lists a) _ _ listed-already
       (λ l. end-case (SenderJudged a) (deathPlusOne d) (Enter a) (sender-at-end l) (λ n e. sender-enters n l e))
+
+-- and what an ended timer's fate means
+module _ {A : Type 0} (address : Address A) (t : Timer A) (m : List (Member A)) where
+  abbrev there : Bool
+  there = listed (address .same) (t .addr) m
+
+  abbrev standing : State
+  standing = heldState (address .same) (t .addr) m
+
+  abbrev number : ℕ
+  number = held (address .same) (t .addr) m
+
+  pub data Fated : Fate → Type 0 where
+    fated-leaves : there ≡ true → isAlive standing ≡ false → number ≤ t .number → Fated Leaves
+    fated-alive : there ≡ true → isAlive standing ≡ true → Fated Stays
+    fated-greater : there ≡ true → t .number < number → Fated Stays
+    fated-absent : there ≡ false → Fated Absent
+
+  listed-fate : (u : Bool) → isAlive standing ≡ u → there ≡ true → Fated (pick (not u && leb number (t .number)) Leaves Stays)
+  listed-fate true e l = fated-alive l e
+  listed-fate false e l =
+      pick-case Fated (leb number (t .number)) Leaves Stays
+      (λ h. fated-leaves l e (leb-true number (t .number) h))
+      (λ h. fated-greater l (leb-false number (t .number) h))
+
+  pub fated : Fated (fateOf address t m)
+  unfolding fateOf
+  fated = pick-case Fated there _ Absent (listed-fate (isAlive standing) refl) fated-absent

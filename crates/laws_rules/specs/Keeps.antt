@@ -177,7 +177,7 @@ module _ {A : Type 0} (address : Address A) where
           settings = refl;
         })))
 
-    quiet-keeps : {s : Node A} (ds : List ℕ) → Good address s → KeepsOut s (quiet s ds)
+    pub quiet-keeps : {s : Node A} (ds : List ℕ) → Good address s → KeepsOut s (quiet s ds)
     unfolding quiet
     quiet-keeps ds g = gives (same-node g)
 

@@ -10,16 +10,17 @@ use native.Mathlib.Nat.{not-suc-le-zero, le-of-suc-le-suc}
 use lib.ListN.{length, getD, length-append}
 use borrow.Author.Tests.{leb-false}
 use Rattle.model.specs.declared.State.the-variants as state
+use Rattle.model.specs.declared.Fate.{Fate}
 use Rattle.model.specs.declared.Settings.{Settings}
-use Rattle.model.specs.Rows.{pick, every, removeAt}
+use Rattle.model.specs.Rows.{every, removeAt}
 use Rattle.model.specs.Answers.{Answer}
 use Rattle.laws.specs.Bools.{and-split, and-join, every-append, none-some}
 use Rattle.laws.specs.After.{After, halts, gives, after-when, after-then, after-map}
 use Rattle.model.specs.Words.{Address, Lawful, Gossip, Timer, Message, Action, Ping, PingReq, Ack, WaitState, SendingPing, WaitingForPingAck, SendingPingReq, WaitingForPingReqAck, Declaring, noTimer}
 use Rattle.model.specs.Members.{Members, addrs}
-use Rattle.model.specs.Node.{heapOf, Node, Out, Effect, withMembers, withTimers, lists, numbered, leave, spread, fresh}
+use Rattle.model.specs.Node.{heapOf, Node, Out, Effect, withMembers, numbered, spread, fresh}
 use Rattle.model.specs.Handler.{admit, answerTo, forwarded, handle}
-use Rattle.model.specs.Detector.{Stepped, pinged, sendPing, waited, askEach, suspect, asked, pickGroup, sendPingReq, declare, step, ended, endAt, firstOver, isOver, later}
+use Rattle.model.specs.Detector.{Stepped, pinged, sendPing, waited, askEach, suspect, asked, pickGroup, sendPingReq, declare, step, byFate, freed, timerAt, fateAt, endAt, firstOver, isOver, later}
 use Rattle.model.specs.declared.Kind.{Kind}
 use Rattle.model.specs.declared.Kind.the-variants as kind
 use Rattle.model.specs.Sound.{inRange, validGossip}
@@ -29,7 +30,8 @@ use Rattle.laws.specs.Counts.{one-le}
 use Rattle.laws_list.specs.Picking.{Turned, pick-turned}
 use Rattle.laws_node.specs.Good.{Good}
 use Rattle.laws_choose.specs.GoodHeap.{GoodHeap}
-use Rattle.laws_rules.specs.Keeps.{Keeps, KeepsOut, keeps-trans, same-node, with-members, more-keeps, gossip-keeps, admit-keeps, acked-keeps, spread-keeps, change-keeps, leave-keeps, with-timers, emit-keeps, suspicion-fits, death-fits}
+use Rattle.laws_rules.specs.Keeps.{Keeps, KeepsOut, keeps-trans, same-node, with-members, more-keeps, gossip-keeps, admit-keeps, acked-keeps, spread-keeps, quiet-keeps, change-keeps, leave-keeps, with-timers, emit-keeps, suspicion-fits, death-fits}
+use Rattle.laws_rules.specs.Judged.{Fated, fated-leaves, fated-alive, fated-greater, fated-absent, fated}
 
 -- what holds of every element holds of the one at a place, and of those that are left without it
 every-in : {B : Type 0} (f : B → Bool) (d : B) (l : List B) (i : ℕ) → i < length l → every f l ≡ true → f (getD l i d) ≡ true
@@ -142,24 +144,27 @@ module _ {A : Type 0} (address : Address A) (lawful : Lawful address) where
   step-keeps (WaitingForPingReqAck b n) now s ds g v = waited-keeps b (Declaring b n) now s ds g
   step-keeps (Declaring b n) now s ds g v = declare-keeps b n now s ds g v
 
-  ended-keeps : (t : Timer A) (s : Node A) (ds : List ℕ) → Good address s → address .valid (t .addr) ≡ true → KeepsOut address s (ended address t s ds)
-  unfolding ended
-  ended-keeps t s ds g v =
-      emit-keeps address kind.Deceased _ s _ ds (death-fits address (s .own) (t .addr) (t .number) (g .own) v)
-      ((elim (lists address (t .addr) s) as (λ u. lists address (t .addr) s ≡ u → Keeps address s (pick u (leave address (t .addr) s) s)) [
-        | true ↦ λ e. leave-keeps address lawful (t .addr) s g e
-        | false ↦ λ e. same-node address g
-      ]) refl)
+  fate-keeps : (t : Timer A) (v : Fate) (s : Node A) (ds : List ℕ) → Good address s → address .valid (t .addr) ≡ true → Fated address t (s .members .table) v → KeepsOut address s (byFate address v t s ds)
+  unfolding byFate
+  fate-keeps t _ s ds g v (fated-leaves l a h) =
+      emit-keeps address kind.Deceased _ s _ ds (death-fits address (s .own) (t .addr) (t .number) (g .own) v) (leave-keeps address lawful (t .addr) s g l)
+  fate-keeps t _ s ds g v (fated-alive l a) = quiet-keeps address lawful ds g
+  fate-keeps t _ s ds g v (fated-greater l h) = quiet-keeps address lawful ds g
+  fate-keeps t _ s ds g v (fated-absent l) = quiet-keeps address lawful ds g
+
+  -- a timer's place is freed
+  pub freed-good : (i : ℕ) (s : Node A) → Good address s → Good address (freed address i s)
+  freed-good i s g =
+      with-timers address s (removeAt (s .timers) i) g (omega (arith, removeAt-shorter (s .timers) i, g .few))
+      (every-removeAt (λ (x : Timer A). address .valid (x .addr)) (s .timers) i (g .timers))
 
   pub end-keeps : (i : ℕ) (s : Node A) (ds : List ℕ) → Good address s → i < length (s .timers) → KeepsOut address s (endAt address i s ds)
   unfolding endAt
   end-keeps i s ds g h =
-      let t = getD (s .timers) i (noTimer address) in
-      let s′ = withTimers s (removeAt (s .timers) i) in
-      let k : Good address s′ = with-timers address s (removeAt (s .timers) i) g (omega (arith, removeAt-shorter (s .timers) i, g .few))
-      (every-removeAt (λ (x : Timer A). address .valid (x .addr)) (s .timers) i (g .timers)) in
       after-map (λ o q. record { good = q .good; own = q .own; settings = q .settings })
-      (ended-keeps t s′ ds k (every-in (λ (x : Timer A). address .valid (x .addr)) (noTimer address) (s .timers) i h (g .timers)))
+      (fate-keeps (timerAt address i s) (fateAt address i s) (freed address i s) ds (freed-good i s g)
+      (every-in (λ (x : Timer A). address .valid (x .addr)) (noTimer address) (s .timers) i h (g .timers))
+      (fated address (timerAt address i s) (s .members .table)))
 
   -- the place of the timer that ends is one of the row
   behind : (n : ℕ) (o : Option ℕ) (i : ℕ) → ((j : ℕ) → o ≡ some j → j < n) → later o ≡ some i → i < suc n

@@ -10,7 +10,9 @@ use Rattle.model.specs.declared.Refusal.{Refusal}
 use Rattle.model.specs.declared.Refusal.the-variants.{Setting, Unsound, ShortRow, ManyRecords, AddressRange}
 use Rattle.model.specs.declared.Cause.{Cause}
 use Rattle.model.specs.declared.Reply.{Reply}
-use Rattle.model.specs.declared.Reply.the-variants.{Done, Already, NotDue, Refused, RefusedAt}
+use Rattle.model.specs.declared.Reply.the-variants.{Done, Already, NotDue, Refuted, Gone, Refused, RefusedAt}
+use Rattle.model.specs.declared.Fate.{Fate}
+use Rattle.model.specs.declared.Fate.the-variants.{Leaves, Stays, Absent}
 use Rattle.model.specs.declared.Settings.{Settings}
 use Rattle.model.specs.Rows.{every}
 use Rattle.model.specs.Bounds.{message-records, Room, message-room, step-room, timer-room}
@@ -19,7 +21,7 @@ use Rattle.model.specs.Words.{Address, Gossip, Action, Ping, PingReq, Ac
 use Rattle.model.specs.Members as list
 use Rattle.model.specs.Node.{Node, Out, Effect, Stored, loaded, stored, fresh, withMembers, lists}
 use Rattle.model.specs.Handler.{handle, stopsAt}
-use Rattle.model.specs.Detector.{due, step, Stepped, firstOver, endAt}
+use Rattle.model.specs.Detector.{due, step, Stepped, firstOver, fateAt, endAt}
 use Rattle.model.specs.Sound.{inRange, sound, validGossip}
 
 -- "refused, it returns no node"
@@ -40,11 +42,13 @@ pub record StepOutcome (A : Type 0) : Type 0 where
   pub wait : Wait A
 
 -- "Where an answer is an enum, there is a definition that gives this paper's number and values": 0 and the draws used for a kept call,
--- 0 and no draws where there was nothing to do, the number of the table and no draws for a refusal
+-- 0 and no draws where there was nothing to do or a timer ended and removed nobody, the number of the table and no draws for a refusal
 abbrev pub replyNumber : Reply → ℕ
 replyNumber (Done used) = 0
 replyNumber Already = 0
 replyNumber NotDue = 0
+replyNumber Refuted = 0
+replyNumber Gone = 0
 replyNumber (Refused r) = numberOf r
 replyNumber (RefusedAt r at) = numberOf r
 
@@ -52,6 +56,8 @@ abbrev pub drawsUsed : Reply → ℕ
 drawsUsed (Done used) = used
 drawsUsed Already = 0
 drawsUsed NotDue = 0
+drawsUsed Refuted = 0
+drawsUsed Gone = 0
 drawsUsed (Refused r) = 0
 drawsUsed (RefusedAt r at) = 0
 
@@ -60,6 +66,8 @@ abbrev pub refusalOf : Reply → Option Refusal
 refusalOf (Done used) = none
 refusalOf Already = none
 refusalOf NotDue = none
+refusalOf Refuted = none
+refusalOf Gone = none
 refusalOf (Refused r) = some r
 refusalOf (RefusedAt r at) = some r
 
@@ -67,8 +75,16 @@ abbrev pub causeOf : Reply → Option Cause
 causeOf (Done used) = none
 causeOf Already = none
 causeOf NotDue = none
+causeOf Refuted = none
+causeOf Gone = none
 causeOf (Refused r) = none
 causeOf (RefusedAt r at) = some at
+
+-- "the timer ends with the answer "refuted" or "already gone""
+abbrev pub fateReply : Fate → Reply
+fateReply Leaves = Done 0
+fateReply Stays = Refuted
+fateReply Absent = Gone
 
 -- the first test that fails gives the refusal
 abbrev pub firstOf : {B : Type 0} → List (Bool × Refusal) → (Refusal → B) → B → B
@@ -203,9 +219,14 @@ module _ {A : Type 0} (address : Address A) where
   abbrev pub reports : Answer (Out A) → Answer (Effect A)
   reports x = andThen x λ o rest. done (record { node = o .node; messages = []; events = o .said }) rest
 
+  -- a timer's end is answered by its fate; refused, nothing is kept
+  abbrev pub keptEnd : Stored A → Fate → Answer (Effect A) → Outcome A
+  keptEnd s v (refused r) = refuses s r
+  keptEnd s v (done e rest) = record { reply = fateReply v; node = stored address (e .node); messages = e .messages; events = e .events }
+
   abbrev pub endsAt : Stored A → Option ℕ → Outcome A
   endsAt s none = unchanged NotDue s
-  endsAt s (some i) = kept s [] (reports (endAt address i (loaded s) []))
+  endsAt s (some i) = keptEnd s (fateAt address i (loaded s)) (reports (endAt address i (loaded s) []))
 
   -- the timer call: 2, 3; "not due"; then the rules. It reads no draw
   abbrev pub timerTests : Stored A → Room → List (Bool × Refusal)

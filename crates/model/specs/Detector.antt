@@ -1,6 +1,6 @@
 -- "Detector": what a step and an ended timer do.
 -- Assumes nothing.
-use mathlib.Core.Bool.{Bool, true, false}
+use mathlib.Core.Bool.{Bool, true, false, not, _&&_}
 use mathlib.Core.List.{List, [], _∷_, _++_}
 use mathlib.Core.Option.{Option, none, some}
 use Prim.Native.Nat.{ℕ, suc, _+_, _-_, _%_}
@@ -10,12 +10,14 @@ use Rattle.model.specs.declared.Settings.{Settings}
 use Rattle.model.specs.declared.Kind.the-variants as kind
 use Rattle.model.specs.declared.State.the-variants as state
 use Rattle.model.specs.declared.Refusal.the-variants.{TimersFull}
+use Rattle.model.specs.declared.Fate.{Fate}
+use Rattle.model.specs.declared.Fate.the-variants.{Leaves, Stays, Absent}
 use Rattle.model.specs.Rows.{pick, removeAt}
 use Rattle.model.specs.Bounds.{ticks, timer-places}
 use Rattle.model.specs.Answers.{Answer, done, refused, andThen, when}
-use Rattle.model.specs.Words.{Address, isAlive, Suspected, Deceased, Gossip, Ping, PingReq, Message, Timer, Wait, WaitState, SendingPing, WaitingForPingAck, SendingPingReq, WaitingForPingReqAck, Declaring, noTimer}
+use Rattle.model.specs.Words.{Address, isAlive, Suspected, Deceased, Gossip, Ping, PingReq, Message, Member, Timer, Wait, WaitState, SendingPing, WaitingForPingAck, SendingPingReq, WaitingForPingReqAck, Declaring, noTimer}
 use Rattle.model.specs.Members as list
-use Rattle.model.specs.Node.{Node, Out, Effect, withMembers, withTimers, emit, lists, numbered, stateOf, change, leave, spread}
+use Rattle.model.specs.Node.{Node, Out, Effect, withMembers, withTimers, quiet, emit, lists, numbered, stateOf, change, leave, spread}
 
 -- "A wait is over when now less start, modulo 2^32, is at least the wait."
 unfoldable pub isOver : ℕ → ℕ → ℕ → Bool
@@ -129,10 +131,31 @@ module _ {A : Type 0} (address : Address A) where
   firstOver wait now [] = none
   firstOver wait now (t ∷ ts) = elim (isOver wait now (t .since)) [ true ↦ some 0 | false ↦ later (firstOver wait now ts) ]
 
-  -- "its address is removed if listed, Deceased emitted at its number, its place reused"
-  unfoldable pub ended : Timer A → Node A → List ℕ → Answer (Out A)
-  ended t s ds =
-      emit address kind.Deceased (record { event = Deceased (s .own) (t .addr) (t .number) }) (pick (lists address (t .addr) s) (leave address (t .addr) s) s) ds
+  -- "an ended timer removes its address only if it is listed, not Alive, and its number is no greater than the timer's": judged by the list and the timer.
+  -- The own address is no exception
+  unfoldable pub fateOf : Timer A → List (Member A) → Fate
+  fateOf t m =
+      pick (list.listed (address .same) (t .addr) m)
+      (pick (not (isAlive (list.heldState (address .same) (t .addr) m)) && leb (list.held (address .same) (t .addr) m) (t .number)) Leaves Stays)
+      Absent
 
+  -- "Deceased emitted at its number"; "otherwise the timer ends .. and emits nothing"
+  unfoldable pub byFate : Fate → Timer A → Node A → List ℕ → Answer (Out A)
+  byFate Leaves t s ds = emit address kind.Deceased (record { event = Deceased (s .own) (t .addr) (t .number) }) (leave address (t .addr) s) ds
+  byFate Stays t s ds = quiet s ds
+  byFate Absent t s ds = quiet s ds
+
+  -- the timer at a place of the row, and what becomes of its address
+  abbrev pub timerAt : ℕ → Node A → Timer A
+  timerAt i s = getD (s .timers) i (noTimer address)
+
+  abbrev pub fateAt : ℕ → Node A → Fate
+  fateAt i s = fateOf (timerAt i s) (s .members .table)
+
+  -- "its place reused"
+  abbrev pub freed : ℕ → Node A → Node A
+  freed i s = withTimers s (removeAt (s .timers) i)
+
+  -- the timer at a place ends: its place is freed whatever its fate
   unfoldable pub endAt : ℕ → Node A → List ℕ → Answer (Out A)
-  endAt i s ds = ended (getD (s .timers) i (noTimer address)) (withTimers s (removeAt (s .timers) i)) ds
+  endAt i s ds = byFate (fateAt i s) (timerAt i s) (freed i s) ds

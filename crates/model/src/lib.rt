@@ -2,6 +2,7 @@
 ghost use mathlib.Core.Path.{_≡_};
 ghost use mathlib.Core.Bool.{_&&_};
 ghost use Rattle.model.specs.Answers.{numberOf};
+ghost use Rattle.model.specs.Words.{isAlive};
 
 // What a list says of a peer. Alive comes first: it is the state of an unused place.
 pub enum State {
@@ -39,12 +40,21 @@ pub enum Cause {
     Sender,
 }
 
-// How a call ended: kept, with how many draws it used; kept with nothing to do; refused; or, of a message alone, refused by its
-// rules, and where.
+// What becomes of a timer's address when the timer ends: it leaves, it stays, or it is absent already.
+pub enum Fate {
+    Leaves,
+    Stays,
+    Absent,
+}
+
+// How a call ended: kept, with how many draws it used; kept with nothing to do; of a timer call alone, a timer ended and removed
+// nobody, since its address was refuted or gone already; refused; or, of a message alone, refused by its rules, and where.
 pub enum Reply {
     Done(usize),
     Already,
     NotDue,
+    Refuted,
+    Gone,
     Refused(Refusal),
     RefusedAt(Refusal, Cause),
 }
@@ -102,6 +112,16 @@ pub fn refusal_number(refusal: Refusal) -> u8
         Refusal::Malformed => 11,
         Refusal::NoRoom => 12,
         Refusal::DeceasedFull => 13,
+    }
+}
+
+pub fn is_alive(state: State) -> bool
+    ensures { λ r. ⌜ r ≡ isAlive state ⌝ }
+{
+    match state {
+        State::Alive => true,
+        State::Pending => false,
+        State::Suspected => false,
     }
 }
 

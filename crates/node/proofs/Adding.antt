@@ -84,7 +84,7 @@ module _ (n : Node) (a : Addr) (number : ℕ) (draws : List ℕ) where
         used-of (A.done y rest) used m d q =
             let w : _≡_ {A = ℕ} (length draws - length rest) used = cc in
             ap (λ (k : ℕ). plainAnswer (Done k) (withMembers n m)) (sym w)
-            ∙ kept-is (length draws - length rest) (M.withMembers (viewNode n) y) (withMembers n m) (part-members n r y m q)
+            ∙ kept-is (Done (length draws - length rest)) (M.withMembers (viewNode n) y) (withMembers n m) (part-members n r y m q)
 
         refused-of : (x : A.Answer (list.Members Addr)) (u : Refusal) → drewOf (length draws) x ≡ drew.Refused u → plainAnswer (Refused u) n ≡ answerOf (kept here s draws (after x))
         refused-of (A.refused w) u d = let z : w ≡ u = cc in ap (λ (k : Refusal). plainAnswer (Refused k) n) (sym z) ∙ sym (unchanged-is (Refused w) n)

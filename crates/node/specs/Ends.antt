@@ -3,11 +3,9 @@
 use mathlib.Core.Path.{_≡_, ap, sym, _∙_}
 use mathlib.Core.Bool.{Bool, true, false}
 use mathlib.Core.List.{List, [], _∷_}
-use Prim.Native.Nat.{ℕ}
 use lib.ListN.{replicate}
 use Rattle.model.specs.declared.Refusal.{Refusal}
 use Rattle.model.specs.declared.Reply.{Reply}
-use Rattle.model.specs.declared.Reply.the-variants.{Done}
 use Rattle.address.specs.Here.{Addr, here}
 use Rattle.model.specs.Node as M
 use Rattle.model.specs.Calls.{firstOf, unchanged}
@@ -28,7 +26,7 @@ unfolding answerOf
 unchanged-is reply n = λ i. record { reply = reply; node = unstored-stored n i; letters = replicate 4 noLetter; sent = 0 }
 
 -- a kept call that sends nothing
-pub kept-is : (used : ℕ) (s : M.Node Addr) (m : Node) → m ≡ packNode s
-    → plainAnswer (Done used) m ≡ answerOf (record { reply = Done used; node = M.stored here s; messages = []; events = [] })
+pub kept-is : (reply : Reply) (s : M.Node Addr) (m : Node) → m ≡ packNode s
+    → plainAnswer reply m ≡ answerOf (record { reply = reply; node = M.stored here s; messages = []; events = [] })
 unfolding answerOf
-kept-is used s m e = λ i. record { reply = Done used; node = (e ∙ sym (unstored-pack s)) i; letters = replicate 4 noLetter; sent = 0 }
+kept-is reply s m e = λ i. record { reply = reply; node = (e ∙ sym (unstored-pack s)) i; letters = replicate 4 noLetter; sent = 0 }

@@ -4,6 +4,7 @@
 use mathlib.Core.Path.{_≡_, refl, sym, _∙_, ap, subst}
 use mathlib.Core.Bool.{true, false}
 use mathlib.Core.List.{List, [], _∷_, _++_, map}
+use mathlib.Core.Option.{some}
 use Prim.Native.Nat.{ℕ, suc, _+_, _≤_, _<_}
 use lib.ListN.{length, take, drop}
 use Rattle.model.specs.declared.Settings.{Settings}
@@ -13,11 +14,13 @@ use Rattle.address.specs.Here.{Addr, here, here-lawful}
 use Rattle.model.specs.Words as W
 use Rattle.model.specs.Words.{Deceased}
 use Rattle.model.specs.Node as M
+use Rattle.model.specs.Detector.{firstOver}
 use Rattle.model.specs.Sound.{sound}
 use Rattle.model.specs.Calls as calls
 use Rattle.history.specs.Moments.{Moment}
-use Rattle.history.specs.Ledger.{Tally, tally, begun}
+use Rattle.history.specs.Ledger.{Tally, carried, tally, begun}
 use Rattle.history.specs.Walk.{Along}
+use Rattle.history.specs.Histories as history
 use Rattle.history.specs.Histories.{World, Call, Receive, Step, outcome, worldOf, run, moments, trace, start}
 use Rattle.history.specs.Tells.{At, targets, Leads, saidBy, deedsIn, asked, askedBy}
 use Rattle.history.specs.Next.{Known, Left, StaysListed, rises-along, bounded}
@@ -70,7 +73,7 @@ pub record Departure (a : Addr) (n : Node) (w : Wait) (cs : List (Call Addr)) (n
   pub moment : Moment Addr
   pub at : At (moments here call (seen before)) place moment
   pub left : Left here a moment
-  pub cause : Cause here a call (seen before) place (M.numbered here a (moment .before))
+  pub cause : Cause here a call (seen before) place (moment .before)
   -- it did not come back: neither at a later moment of that call nor at one of a later call
   pub out : Absent here a (drop (suc place) (moments here call (seen before)) ++ trace here later (seen after))
 
@@ -186,13 +189,28 @@ module _ (settings : Settings) (own : Addr) (number tick : ℕ) (r : Answer) (me
     bound = bounded here a own ledger c last (model.known here here-lawful settings own number tick _ begins cs a c)
 
     -- every moment at which the address left has its cause: record i of the message, or the timer that the call ended
-    pub caused : (i : ℕ) (m : Moment Addr) → At next i m → Left here a m → Cause here a c (world node wait) i (M.numbered here a (m .before))
+    pub caused : (i : ℕ) (m : Moment Addr) → At next i m → Left here a m → Cause here a c (world node wait) i (m .before)
     caused i m p l = auditor.caused here a here-lawful own ledger c (world node wait) (known c) i m (subst (λ (w : World Addr). At (moments here c w) i m) replayed p) l
 
     -- "can an older message do it?" No: at a record whose number is below the held one the address stays
     pub no-older-message : (action : W.Action Addr) (gs : List (W.Gossip Addr)) (ds : List ℕ) (lent : Room) (i : ℕ) (m : Moment Addr) (from : Addr) (n : ℕ) → c ≡ Receive action gs ds lent → At next i m → At gs i (record { event = Deceased from a n })
         → n < M.numbered here a (m .before) → M.lists here a (m .before) ≡ true → M.lists here a (m .after) ≡ true
     no-older-message = auditor.spared here a here-lawful own ledger c last (model.known here here-lawful settings own number tick _ begins cs a c)
+
+    -- nor can an older time-out: the timer that ends carries a number below the held one
+    pub no-older-time-out : (now : ℕ) (lent : Room) (j : ℕ) (old : W.Timer Addr) (i : ℕ) (m : Moment Addr) → c ≡ history.Timer now lent
+        → firstOver here (last .node .settings .«suspect_timeout») now (M.loaded (last .node) .timers) ≡ some j → At (M.loaded (last .node) .timers) j old → At next i m
+        → old .number < M.numbered here a (m .before) → M.lists here a (m .before) ≡ true → M.lists here a (m .after) ≡ true
+    no-older-time-out = auditor.refuted-older here a here-lawful own ledger c last (model.known here here-lawful settings own number tick _ begins cs a c)
+
+    -- nor any time-out one that is Alive
+    pub no-time-out-if-alive : (now : ℕ) (lent : Room) (i : ℕ) (m : Moment Addr) → c ≡ history.Timer now lent → At next i m
+        → W.isAlive (M.stateOf here a (m .before)) ≡ true → M.lists here a (m .before) ≡ true → M.lists here a (m .after) ≡ true
+    no-time-out-if-alive = auditor.refuted-alive here a here-lawful own ledger c last (model.known here here-lawful settings own number tick _ begins cs a c)
+
+    -- so no departure carries a number below the held one, whichever call it is
+    pub no-departure-below : (i : ℕ) (m : Moment Addr) → At next i m → Left here a m → M.numbered here a (m .before) ≤ carried here a (m .deed)
+    no-departure-below = auditor.no-lower here a here-lawful own ledger c last (model.known here here-lawful settings own number tick _ begins cs a c)
 
   -- "for any controller that has left a list, which message or time-out took it out?" The address is listed in this node, and no longer in the one after some more calls
   pub which-took-it-out : (more : List (Call Addr)) (node′ : Node) (wait′ : Wait) → Runs node wait more node′ wait′ → M.lists here a (viewNode node) ≡ true → M.lists here a (viewNode node′) ≡ false
@@ -221,7 +239,7 @@ module _ (settings : Settings) (own : Addr) (number tick : ℕ) (r : Answer) (me
             moment = t .moment;
             at = subst (λ (w : World Addr). At (moments here (t .call) w) (t .place) (t .moment)) there (t .at);
             left = t .left;
-            cause = subst (λ (w : World Addr). Cause here a (t .call) w (t .place) (M.numbered here a (t .moment .before))) there (t .cause);
+            cause = subst (λ (w : World Addr). Cause here a (t .call) w (t .place) (t .moment .before)) there (t .cause);
             out = subst (λ (w : World Addr). Absent here a (drop (suc (t .place)) (moments here (t .call) (seen (v .before))) ++ trace here (t .later) w)) (sym (made-is (v .before) (t .call) (v .said) (v .after) (v .made) .world))
                 (subst (λ (w : World Addr). Absent here a (drop (suc (t .place)) (moments here (t .call) w) ++ trace here (t .later) (worldOf here (outcome here (t .call) w)))) there (t .out));
           }

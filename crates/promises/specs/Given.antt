@@ -5,28 +5,30 @@ use mathlib.Core.Logic.{_↔_}
 use mathlib.Core.Bool.{Bool, true, false, not, _&&_}
 use mathlib.Core.List.{List, [], _∷_}
 use mathlib.Core.Option.{Option, none, some}
-use Prim.Native.Nat.{ℕ, _-_, _≤_, _<_}
+use Prim.Native.Nat.{ℕ, _≤_, _<_}
 use native.Mathlib.Omega.{arith}
-use lib.ListN.{length}
 use lib.Dec.{eqb, ltb}
 use borrow.Author.Tests.{ltb-true, ltb-false}
 use Rattle.model.specs.declared.Refusal.{Refusal}
 use Rattle.model.specs.declared.Cause.{Cause}
 use Rattle.model.specs.declared.Reply.{Reply}
-use Rattle.model.specs.declared.Reply.the-variants.{Done, Already, NotDue, Refused, RefusedAt}
+use Rattle.model.specs.declared.Reply.the-variants.{Done, Already, NotDue, Refuted, Gone, Refused, RefusedAt}
+use Rattle.model.specs.declared.Fate.{Fate}
+use Rattle.model.specs.declared.Fate.the-variants.{Leaves, Stays, Absent}
 use Rattle.model.specs.Bounds.{Room}
+use Rattle.laws.specs.Bools.{none-some}
 use Rattle.model.specs.Rows.{has}
 use Rattle.model.specs.Answers.{Answer, done, refused, numberOf}
 use Rattle.model.specs.Words.{Address, Gossip, Action, Wait, Timer}
-use Rattle.model.specs.Node.{Stored, Effect, loaded, lists}
+use Rattle.model.specs.Node.{Node, Out, Stored, Effect, loaded, lists, quiet}
 use Rattle.model.specs.Handler.{handle, stopsAt}
 use Rattle.model.specs.Detector as D
 use Rattle.model.specs.Calls as calls
 use Rattle.model.specs.Calls.{replyNumber, firstOf}
-use Rattle.promises.specs.Replies.{NotDone, cause-apart, already-apart, not-due-apart, same-number, not-zero}
+use Rattle.promises.specs.Replies.{kind, NotDone, cause-apart, already-apart, not-due-apart, same-number, not-zero}
 use Rattle.promises.specs.Firsts.{FirstFails, Among, Passed, first-among, all-among, among-also, exactly, after-tests, by-tests, first-cases}
-use Rattle.promises.specs.Stops.{addStops, stepStops, endStops, MessageStops, noneOver}
-use Rattle.promises.specs.Stopping.{joins-refuses, step-refuses, end-refuses, step-among}
+use Rattle.promises.specs.Stops.{addStops, stepStops, endStops, MessageStops, Over, noneOver}
+use Rattle.promises.specs.Stopping.{joins-refuses, step-refuses, end-refuses, end-among, step-among}
 use Rattle.promises.specs.Records.{message-among, handle-exactly, Told}
 
 -- What a call gives. `idly` is what it gives, by its reply, where it changes nothing; `y` is its word for nothing to do, and P when; S says of each of 6 to 10 what stops the rules
@@ -56,6 +58,8 @@ numbers {replyOf = replyOf} {given = given} t ns zero tests stops = by-reply (re
     by-reply (Done used) e = zero
     by-reply Already e = zero
     by-reply NotDue e = zero
+    by-reply Refuted e = zero
+    by-reply Gone e = zero
     by-reply (Refused x) e = by-number x (ap replyNumber e)
     by-reply (RefusedAt x at) e = by-number x (ap replyNumber e)
 
@@ -72,15 +76,39 @@ idle-no-refusal : {y : Reply} → Idle y → (r : Refusal) → Refused r ≡ y �
 idle-no-refusal already r e = already-apart (sym e)
 idle-no-refusal not-due r e = not-due-apart (sym e)
 
-idle-not-done : {y : Reply} → Idle y → (n : ℕ) → Done n ≡ y → ⊥
-idle-not-done already n e = let z : _≡_ {A = ℕ} 0 1 = cc in omega arith
-idle-not-done not-due n e = let z : _≡_ {A = ℕ} 0 1 = cc in omega arith
+-- the words of a kept call
+data WasKept : Reply → Type 0 where
+  by-done : (used : ℕ) → WasKept (Done used)
+  by-refuted : WasKept Refuted
+  by-gone : WasKept Gone
+
+kept-number : {y : Reply} → WasKept y → replyNumber y ≡ 0
+kept-number (by-done n) = refl
+kept-number by-refuted = refl
+kept-number by-gone = refl
+
+kept-done : {y : Reply} → WasKept y → NotDone y → ⊥
+kept-done (by-done n) unkept = unkept
+kept-done by-refuted unkept = unkept
+kept-done by-gone unkept = unkept
+
+kept-not-idle : {z y : Reply} → WasKept z → Idle y → z ≡ y → ⊥
+kept-not-idle (by-done n) already e = let z : _≡_ {A = ℕ} 0 1 = cc in omega arith
+kept-not-idle (by-done n) not-due e = let z : _≡_ {A = ℕ} 0 1 = cc in omega arith
+kept-not-idle by-refuted already e = let z : _≡_ {A = ℕ} 0 1 = cc in omega arith
+kept-not-idle by-refuted not-due e = let z : _≡_ {A = ℕ} 0 1 = cc in omega arith
+kept-not-idle by-gone already e = let z : _≡_ {A = ℕ} 0 1 = cc in omega arith
+kept-not-idle by-gone not-due e = let z : _≡_ {A = ℕ} 0 1 = cc in omega arith
+
+fate-kept : (v : Fate) → WasKept (calls.fateReply v)
+fate-kept Leaves = by-done 0
+fate-kept Stays = by-refuted
+fate-kept Absent = by-gone
 
 module _ {B : Type 0} (replyOf : B → Reply) (idly : Reply → B) where
-  -- an outcome of the rules' answer: Done where they give something, and where they refuse nothing changes
+  -- an outcome of the rules' answer: kept where they give something, and where they refuse nothing changes
   record Tells {C : Type 0} (outcome : Answer C → B) : Type 0 where
-    used : List ℕ → ℕ
-    gives : (c : C) (rest : List ℕ) → replyOf (outcome (done c rest)) ≡ Done (used rest)
+    gives : (c : C) (rest : List ℕ) → WasKept (replyOf (outcome (done c rest)))
     refusing : Refusal → Reply
     numbered : (r : Refusal) → replyNumber (refusing r) ≡ numberOf r
     refuses : (r : Refusal) → outcome (refused r) ≡ idly (refusing r)
@@ -118,7 +146,7 @@ module _ {B : Type 0} (replyOf : B → Reply) (idly : Reply → B) (says : (z : 
 
       never : (a : Answer C) → replyOf (outcome a) ≡ y → ⊥
       never (refused r) e = not-zero r (sym (ap replyNumber e ∙ idle-number word) ∙ number r)
-      never (done c rest) e = idle-not-done word (t .used rest) (sym (t .gives c rest) ∙ e)
+      never (done c rest) e = kept-not-idle (t .gives c rest) word e
 
       told : (x : Refusal) (a : Answer C) → (replyNumber (replyOf (outcome a)) ≡ numberOf x) ↔ (a ≡ refused x)
       told x (refused r) = (
@@ -126,13 +154,13 @@ module _ {B : Type 0} (replyOf : B → Reply) (idly : Reply → B) (says : (z : 
         (λ e. let z : r ≡ x = cc in number r ∙ ap numberOf z),
       )
       told x (done c rest) = (
-        (λ e. absurd (not-zero x (sym (ap replyNumber (t .gives c rest)) ∙ e))),
+        (λ e. absurd (not-zero x (sym (kept-number (t .gives c rest)) ∙ e))),
         (λ e. let z : _≡_ {A = ℕ} 0 1 = cc in absurd (omega arith)),
       )
 
       keeps : (a : Answer C) (z : Reply) → NotDone z → replyOf (outcome a) ≡ z → outcome a ≡ idly z
       keeps (refused r) z unkept e = t .refuses r ∙ ap idly (sym (reply r) ∙ e)
-      keeps (done c rest) z unkept e = absurd (subst NotDone (sym e ∙ t .gives c rest) unkept)
+      keeps (done c rest) z unkept e = absurd (kept-done (t .gives c rest) (subst NotDone (sym e) unkept))
 
   -- and so with the tests before it
   tabled : (ts : List (Bool × Refusal)) → Among (λ r. numberOf r < 6) ts → ((x : Refusal) → S x → 6 ≤ numberOf x) → {go : B} → Goes replyOf idly y P S go
@@ -176,6 +204,13 @@ unlike e = let z : _≡_ {A = ℕ} 0 1 = cc in absurd (omega arith)
 lets : {u v : Bool} {Q R : Type 0} → u ≡ v → Q ↔ R → Q ↔ ((u ≡ v) × R)
 lets e h = ((λ q. (e, h .0 q)), (λ f. h .1 (f .1)))
 
+-- what holds of one place, said of a place that is named
+at-place : {Q : Type 0} (R : ℕ → Type 0) {i : ℕ} → Q ↔ R i → Q ↔ ((j : ℕ) × (_≡_ {A = Option ℕ} (some i) (some j)) × R j)
+at-place R {i} h = ((λ q. (i, refl, h .0 q)), (λ f. h .1 (subst R (sym (same-place (f .1))) (f .2))))
+  where
+    same-place : {j k : ℕ} → _≡_ {A = Option ℕ} (some j) (some k) → j ≡ k
+    same-place e = cc
+
 -- ---- the calls
 abbrev pub replyOf : {A : Type 0} → calls.Outcome A → Reply
 replyOf o = o .reply
@@ -192,13 +227,16 @@ module _ {A : Type 0} (address : Address A) (s : Stored A) where
   stepIdly w z = record { outcome = calls.unchanged z s; wait = w }
 
   kept-tells : (ds : List ℕ) → Tells replyOf idly (calls.kept address s ds)
-  kept-tells ds = record { used = λ rest. length ds - length rest; gives = λ e rest. refl; refusing = Refused; numbered = λ r. refl; refuses = λ r. refl }
+  kept-tells ds = record { gives = λ e rest. by-done _; refusing = Refused; numbered = λ r. refl; refuses = λ r. refl }
 
   message-tells : (at : Cause) (ds : List ℕ) → Tells replyOf idly (calls.keptMessage address s at ds)
-  message-tells at ds = record { used = λ rest. length ds - length rest; gives = λ e rest. refl; refusing = λ r. RefusedAt r at; numbered = λ r. refl; refuses = λ r. refl }
+  message-tells at ds = record { gives = λ e rest. by-done _; refusing = λ r. RefusedAt r at; numbered = λ r. refl; refuses = λ r. refl }
 
   kept-step-tells : (w : Wait A) (ds : List ℕ) → Tells stepReply (stepIdly w) (calls.keptStep address s w ds)
-  kept-step-tells w ds = record { used = λ rest. length ds - length rest; gives = λ e rest. refl; refusing = Refused; numbered = λ r. refl; refuses = λ r. refl }
+  kept-step-tells w ds = record { gives = λ e rest. by-done _; refusing = Refused; numbered = λ r. refl; refuses = λ r. refl }
+
+  end-tells : (v : Fate) → Tells replyOf idly (calls.keptEnd address s v)
+  end-tells v = record { gives = λ e rest. fate-kept v; refusing = Refused; numbered = λ r. refl; refuses = λ r. refl }
 
   -- adding a peer: it is listed, or what stops an add
   pub add-table : (a : A) (n : ℕ) (ds : List ℕ)
@@ -259,17 +297,71 @@ module _ {A : Type 0} (address : Address A) (s : Stored A) where
       due true = asks stepReply (stepIdly w) (λ z. refl) not-due (kept-step-tells w ds) unlike (D.step address (w .state) now (loaded s) ds) (λ x. lets refl (exactly x (step-refuses address (w .state) now (loaded s) ds)))
       due false = rests stepReply (stepIdly w) (λ z. refl) not-due refl (λ x h. unlike (sym (h .0)))
 
-  -- the timer call: no timer is over, or what stops its end
-  pub timer-table : (now : ℕ) (lent : Room) → let none-over = noneOver (s .settings .«suspect_timeout») now (loaded s .timers) in
-      Tabled replyOf idly NotDue (calls.timerTests address s lent) (none-over ≡ true) (λ x. (none-over ≡ false) × FirstFails x (endStops (loaded s))) (calls.endTimer address s now lent)
+  -- the timer call: no timer is over, or what stops the end of the first that is
+  pub timer-table : (now : ℕ) (lent : Room) →
+      let wait : ℕ = s .settings .«suspect_timeout» in
+      Tabled replyOf idly NotDue (calls.timerTests address s lent)
+      (noneOver wait now (loaded s .timers) ≡ true)
+      (λ x. Over address wait now (loaded s) (λ t. FirstFails x (endStops (D.fateOf address t (loaded s .members .table)) (loaded s))))
+      (calls.endTimer address s now lent)
   unfolding calls.endTimer
   timer-table now lent =
-      tabled replyOf idly (λ z. refl) not-due (calls.timerTests address s lent) (omega arith) (λ x h. first-among (λ r. 6 ≤ numberOf r) (h .1) (omega arith))
+      tabled replyOf idly (λ z. refl) not-due (calls.timerTests address s lent) (omega arith) (λ x h. first-among (λ r. 6 ≤ numberOf r) (h .2) (end-among address (λ r. 6 ≤ numberOf r) (omega arith) (D.fateAt address (h .0) (loaded s)) (loaded s)))
       (ended (D.firstOver address (s .settings .«suspect_timeout») now (loaded s .timers)) (first-over address (s .settings .«suspect_timeout») now (loaded s .timers)))
     where
-      ended : (o : Option ℕ) {u : Bool} → noPlace o ≡ u → Goes replyOf idly NotDue (u ≡ true) (λ x. (u ≡ false) × FirstFails x (endStops (loaded s))) (calls.endsAt address s o)
-      ended none e = rests replyOf idly (λ z. refl) not-due (sym e) (λ x h. unlike (e ∙ h .0))
-      ended (some i) e = asks replyOf idly (λ z. refl) not-due (kept-tells []) (λ f. unlike (sym (e ∙ f))) (calls.reports address (D.endAt address i (loaded s) [])) (λ x. lets (sym e) (exactly x (end-refuses address i (loaded s) [])))
+      ended : (o : Option ℕ) {u : Bool} → noPlace o ≡ u
+          → Goes replyOf idly NotDue (u ≡ true) (λ x. (i : ℕ) × (o ≡ some i) × FirstFails x (endStops (D.fateAt address i (loaded s)) (loaded s))) (calls.endsAt address s o)
+      ended none e = rests replyOf idly (λ z. refl) not-due (sym e) (λ x h. none-some (h .1))
+      ended (some i) e =
+          asks replyOf idly (λ z. refl) not-due (end-tells (D.fateAt address i (loaded s))) (λ f. unlike (sym (e ∙ f))) (calls.reports address (D.endAt address i (loaded s) []))
+          (λ x. at-place (λ j. FirstFails x (endStops (D.fateAt address j (loaded s)) (loaded s))) (exactly x (end-refuses address i (loaded s) [])))
+
+  -- "refuted" and "already gone": the first timer that is over ends by that fate
+  ends-by : (u : Fate) → (calls.fateReply u ≡ NotDue → ⊥) → ((i : ℕ) → (calls.endsAt address s (some i) .reply ≡ calls.fateReply u) ↔ (D.fateAt address i (loaded s) ≡ u))
+      → (o : Option ℕ) → (calls.endsAt address s o .reply ≡ calls.fateReply u) ↔ ((i : ℕ) × (o ≡ some i) × (D.fateAt address i (loaded s) ≡ u))
+  ends-by u never h none = ((λ e. absurd (never (sym e))), (λ f. none-some (f .1)))
+  ends-by u never h (some i) = at-place (λ j. D.fateAt address j (loaded s) ≡ u) (h i)
+
+  timer-ends : (u : Fate) → (calls.fateReply u ≡ NotDue → ⊥) → ((r : Refusal) → Refused r ≡ calls.fateReply u → ⊥)
+      → ((i : ℕ) → (calls.endsAt address s (some i) .reply ≡ calls.fateReply u) ↔ (D.fateAt address i (loaded s) ≡ u)) → (now : ℕ) (lent : Room)
+      → (calls.endTimer address s now lent .reply ≡ calls.fateReply u)
+      ↔ (Passed (calls.timerTests address s lent) × Over address (s .settings .«suspect_timeout») now (loaded s) (λ t. D.fateOf address t (loaded s .members .table) ≡ u))
+  unfolding calls.endTimer
+  timer-ends u never apart h now lent =
+      let after = after-tests replyOf Refused (calls.refuses s) (λ r. refl) _ (calls.fateReply u) (calls.timerTests address s lent) (all-among apart (calls.timerTests address s lent)) in
+      let ends = ends-by u never h (D.firstOver address (s .settings .«suspect_timeout») now (loaded s .timers)) in
+      ((λ e. (after .0 e .0, ends .0 (after .0 e .1))), (λ f. after .1 (f .0, ends .1 (f .1))))
+
+  removal-told : (x : Answer (Out A)) (y : Reply) → calls.keptEnd address s Leaves (calls.reports address x) .reply ≡ y → OneOf (0 ∷ 3 ∷ []) (kind y)
+  unfolding kind
+  removal-told (refused r) y e = ap (λ (z : Reply). has eqb (kind z) (0 ∷ 3 ∷ [])) (sym e)
+  removal-told (done o rest) y e = ap (λ (z : Reply). has eqb (kind z) (0 ∷ 3 ∷ [])) (sym e)
+
+  refuted-by : (v : Fate) (t : Timer A) (m : Node A) → (calls.keptEnd address s v (calls.reports address (D.byFate address v t m [])) .reply ≡ Refuted) ↔ (v ≡ Stays)
+  unfolding D.byFate quiet kind
+  refuted-by Leaves t m = ((λ e. unlike (sym (removal-told (D.byFate address Leaves t m []) Refuted e))), (λ e. let z : _≡_ {A = ℕ} 0 1 = cc in absurd (omega arith)))
+  refuted-by Stays t m = ((λ e. refl), (λ e. refl))
+  refuted-by Absent t m = ((λ e. let z : _≡_ {A = ℕ} 0 1 = cc in absurd (omega arith)), (λ e. let z : _≡_ {A = ℕ} 0 1 = cc in absurd (omega arith)))
+
+  gone-by : (v : Fate) (t : Timer A) (m : Node A) → (calls.keptEnd address s v (calls.reports address (D.byFate address v t m [])) .reply ≡ Gone) ↔ (v ≡ Absent)
+  unfolding D.byFate quiet kind
+  gone-by Leaves t m = ((λ e. unlike (sym (removal-told (D.byFate address Leaves t m []) Gone e))), (λ e. let z : _≡_ {A = ℕ} 0 1 = cc in absurd (omega arith)))
+  gone-by Stays t m = ((λ e. let z : _≡_ {A = ℕ} 0 1 = cc in absurd (omega arith)), (λ e. let z : _≡_ {A = ℕ} 0 1 = cc in absurd (omega arith)))
+  gone-by Absent t m = ((λ e. refl), (λ e. refl))
+
+  pub timer-refutes : (now : ℕ) (lent : Room) → (calls.endTimer address s now lent .reply ≡ Refuted)
+      ↔ (Passed (calls.timerTests address s lent) × Over address (s .settings .«suspect_timeout») now (loaded s) (λ t. D.fateOf address t (loaded s .members .table) ≡ Stays))
+  unfolding D.endAt
+  timer-refutes =
+      timer-ends Stays (λ e. let z : _≡_ {A = ℕ} 0 1 = cc in omega arith) (λ r e. let z : _≡_ {A = ℕ} 0 1 = cc in omega arith)
+      (λ i. refuted-by (D.fateAt address i (loaded s)) (D.timerAt address i (loaded s)) (D.freed address i (loaded s)))
+
+  pub timer-finds-gone : (now : ℕ) (lent : Room) → (calls.endTimer address s now lent .reply ≡ Gone)
+      ↔ (Passed (calls.timerTests address s lent) × Over address (s .settings .«suspect_timeout») now (loaded s) (λ t. D.fateOf address t (loaded s .members .table) ≡ Absent))
+  unfolding D.endAt
+  timer-finds-gone =
+      timer-ends Absent (λ e. let z : _≡_ {A = ℕ} 0 1 = cc in omega arith) (λ r e. let z : _≡_ {A = ℕ} 0 1 = cc in omega arith)
+      (λ i. gone-by (D.fateAt address i (loaded s)) (D.timerAt address i (loaded s)) (D.freed address i (loaded s)))
 
   -- "A detector, timer or add refusal has no record number."
   kept-causeless : (ds : List ℕ) (x : Answer (Effect A)) → calls.causeOf (calls.kept address s ds x .reply) ≡ none
@@ -298,9 +390,15 @@ module _ {A : Type 0} (address : Address A) (s : Stored A) where
         | false ↦ refl
       ])
 
+  end-causeless : (v : Fate) (x : Answer (Effect A)) → calls.causeOf (calls.keptEnd address s v x .reply) ≡ none
+  end-causeless v (refused r) = refl
+  end-causeless Leaves (done e rest) = refl
+  end-causeless Stays (done e rest) = refl
+  end-causeless Absent (done e rest) = refl
+
   ends-causeless : (o : Option ℕ) → calls.causeOf (calls.endsAt address s o .reply) ≡ none
   ends-causeless none = refl
-  ends-causeless (some i) = kept-causeless [] (calls.reports address (D.endAt address i (loaded s) []))
+  ends-causeless (some i) = end-causeless (D.fateAt address i (loaded s)) (calls.reports address (D.endAt address i (loaded s) []))
 
   pub timer-no-cause : (now : ℕ) (lent : Room) → calls.causeOf (calls.endTimer address s now lent .reply) ≡ none
   unfolding calls.endTimer

@@ -8,7 +8,7 @@ use Prim.Native.Nat.{ℕ}
 use lib.ListN.{length}
 use Rattle.model.specs.declared.Refusal.{Refusal}
 use Rattle.model.specs.declared.Reply.{Reply}
-use Rattle.model.specs.declared.Reply.the-variants.{Done, Already, NotDue, Refused, RefusedAt}
+use Rattle.model.specs.declared.Reply.the-variants.{Done, Already, NotDue, Refuted, Gone, Refused, RefusedAt}
 use Rattle.model.specs.declared.Settings.{Settings}
 use Rattle.address.specs.Here.{Addr, here}
 use Rattle.model.specs.Calls as calls
@@ -100,6 +100,8 @@ unkept-draws : (z : Reply) → NotDone z → calls.drawsUsed z ≡ 0
 unkept-draws (Done used) unkept = absurd unkept
 unkept-draws Already unkept = refl
 unkept-draws NotDue unkept = refl
+unkept-draws Refuted unkept = absurd unkept
+unkept-draws Gone unkept = absurd unkept
 unkept-draws (Refused r) unkept = refl
 unkept-draws (RefusedAt r at) unkept = refl
 

@@ -9,23 +9,28 @@ use Rattle.model.specs.declared.Refusal.{Refusal}
 use Rattle.model.specs.declared.Refusal.the-variants.{Setting, Unsound, ShortRow, ManyRecords, AddressRange, NumberEnd, ListFull, DrawsShort, AliveFull, TimersFull, Malformed, NoRoom, DeceasedFull}
 use Rattle.model.specs.declared.Cause.{Cause}
 use Rattle.model.specs.declared.Reply.{Reply}
-use Rattle.model.specs.declared.Reply.the-variants.{Done, Already, NotDue, Refused, RefusedAt}
+use Rattle.model.specs.declared.Reply.the-variants.{Done, Already, NotDue, Refuted, Gone, Refused, RefusedAt}
 use Rattle.model.specs.Rows.{pick}
 use Rattle.model.specs.Answers.{numberOf}
 use Rattle.model.specs.Calls.{refusalOf}
 
-kind : Reply → ℕ
+-- the replies, told apart by a number
+unfoldable pub kind : Reply → ℕ
 kind (Done used) = 0
 kind Already = 1
 kind NotDue = 2
 kind (Refused r) = 3
 kind (RefusedAt r at) = 4
+kind Refuted = 5
+kind Gone = 6
 
--- a reply of a call that is not kept: a refusal, "already", "not due"
+-- a reply of a call that is not kept: a refusal, "already", "not due". A timer that ended and removed nobody is kept: its place is freed
 abbrev pub NotDone : Reply → Type 0
 NotDone (Done used) = ⊥
 NotDone Already = Unit {0}
 NotDone NotDue = Unit {0}
+NotDone Refuted = ⊥
+NotDone Gone = ⊥
 NotDone (Refused r) = Unit {0}
 NotDone (RefusedAt r at) = Unit {0}
 
@@ -34,6 +39,8 @@ pub refusal-unkept : (z : Reply) (x : Refusal) → refusalOf z ≡ some x → No
 refusal-unkept (Done used) x e = let z : _≡_ {A = ℕ} 0 1 = cc in omega arith
 refusal-unkept Already x e = tt
 refusal-unkept NotDue x e = tt
+refusal-unkept Refuted x e = let z : _≡_ {A = ℕ} 0 1 = cc in omega arith
+refusal-unkept Gone x e = let z : _≡_ {A = ℕ} 0 1 = cc in omega arith
 refusal-unkept (Refused r) x e = tt
 refusal-unkept (RefusedAt r at) x e = tt
 

@@ -7,7 +7,7 @@ use mathlib.Core.List.{List, [], _∷_}
 use mathlib.Core.Option.{Option, none, some}
 use Prim.Native.Nat.{ℕ, _+_, max, _<_}
 use native.Mathlib.Omega.{arith}
-use lib.ListN.{length, getD}
+use lib.ListN.{length}
 use lib.Dec.{leb, ltb}
 use borrow.Author.Tests.{lt-ltb, le-ltb, le-leb, lt-leb}
 use Rattle.model.specs.declared.Kind.{Kind}
@@ -15,12 +15,14 @@ use Rattle.model.specs.declared.Kind.the-variants as kind
 use Rattle.model.specs.declared.State.{State}
 use Rattle.model.specs.declared.State.the-variants as state
 use Rattle.model.specs.declared.Refusal.{Refusal}
-use Rattle.model.specs.declared.Refusal.the-variants.{DrawsShort, AliveFull, TimersFull}
+use Rattle.model.specs.declared.Refusal.the-variants.{DrawsShort, AliveFull, TimersFull, DeceasedFull}
+use Rattle.model.specs.declared.Fate.{Fate}
+use Rattle.model.specs.declared.Fate.the-variants.{Leaves, Stays, Absent}
 use Rattle.model.specs.Rows.{pick, isEmpty, removeAt}
 use Rattle.laws.specs.Bools.{none-some}
 use Rattle.model.specs.Bounds.{last-number}
 use Rattle.model.specs.Answers.{Answer, done, refused, andThen, when, draw, fullOf}
-use Rattle.model.specs.Words.{Address, isAlive, partsOf, Event, Suspected, Deceased, Gossip, Timer, noTimer, WaitState, SendingPing, WaitingForPingAck, SendingPingReq, WaitingForPingReqAck, Declaring}
+use Rattle.model.specs.Words.{Address, isAlive, partsOf, Event, Suspected, Deceased, Gossip, Timer, WaitState, SendingPing, WaitingForPingAck, SendingPingReq, WaitingForPingReqAck, Declaring}
 use Rattle.model.specs.Members as list
 use Rattle.model.specs.Node as M
 use Rattle.model.specs.Node.{Node, lists, numbered, stateOf, heldDeath}
@@ -175,17 +177,21 @@ module _ {A : Type 0} (address : Address A) where
   step-refuses (WaitingForPingReqAck a n) now s ds = goes tt
   step-refuses (Declaring a n) now s ds = tested (timersFull s) (goes tt)
 
-  ended-refuses : (t : Timer A) (s : Node A) (ds : List ℕ) → Refuses (endStops s) (D.ended address t s ds)
-  unfolding D.ended M.leave
-  ended-refuses t s ds =
-      elim (lists address (t .addr) s) as (λ u. Refuses (endStops s) (M.emit address kind.Deceased (record { event = Deceased (s .own) (t .addr) (t .number) }) (pick u (M.leave address (t .addr) s) s) ds)) [
-        | true ↦ emit-refuses kind.Deceased _ (M.leave address (t .addr) s) ds
-        | false ↦ emit-refuses kind.Deceased _ s ds
-      ]
+  fate-refuses : (v : Fate) (t : Timer A) (ts : List (Timer A)) (s : Node A) (ds : List ℕ) → Refuses (endStops v s) (calls.reports address (D.byFate address v t (M.withTimers s ts) ds))
+  unfolding D.byFate M.leave
+  fate-refuses Leaves t ts s ds = then (endStops Leaves s) (emit-refuses kind.Deceased _ (M.leave address (t .addr) (M.withTimers s ts)) ds) (λ o rest. goes tt)
+  fate-refuses Stays t ts s ds = then [] (quiet-refuses (M.withTimers s ts) ds) (λ o rest. goes tt)
+  fate-refuses Absent t ts s ds = then [] (quiet-refuses (M.withTimers s ts) ds) (λ o rest. goes tt)
 
-  pub end-refuses : (i : ℕ) (s : Node A) (ds : List ℕ) → Refuses (endStops s) (calls.reports address (D.endAt address i s ds))
+  pub end-refuses : (i : ℕ) (s : Node A) (ds : List ℕ) → Refuses (endStops (D.fateAt address i s) s) (calls.reports address (D.endAt address i s ds))
   unfolding D.endAt
-  end-refuses i s ds = then (endStops s) (ended-refuses (getD (s .timers) i (noTimer address)) (M.withTimers s (removeAt (s .timers) i)) ds) (λ o rest. goes tt)
+  end-refuses i s ds = fate-refuses (D.fateAt address i s) (D.timerAt address i s) (removeAt (s .timers) i) s ds
+
+  -- which refusals an ended timer can give
+  pub end-among : (P : Refusal → Type 0) → P DeceasedFull → (v : Fate) (s : Node A) → Among P (endStops v s)
+  end-among P full Leaves s = (full, tt)
+  end-among P full Stays s = tt
+  end-among P full Absent s = tt
 
   -- which refusals a step can give
   pub step-among : (P : Refusal → Type 0) → P DrawsShort → P AliveFull → P TimersFull → (st : WaitState A) (s : Node A) (ds : List ℕ) → Among P (stepStops address st s ds)

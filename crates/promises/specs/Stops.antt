@@ -10,15 +10,17 @@ use lib.ListN.{length, getD, take}
 use lib.Dec.{leb, ltb}
 use Rattle.model.specs.declared.Kind.{Kind}
 use Rattle.model.specs.declared.Kind.the-variants as kind
+use Rattle.model.specs.declared.Fate.{Fate}
+use Rattle.model.specs.declared.Fate.the-variants.{Leaves, Stays, Absent}
 use Rattle.model.specs.declared.Refusal.{Refusal}
 use Rattle.model.specs.declared.Refusal.the-variants.{NumberEnd, ListFull, DrawsShort, AliveFull, TimersFull, DeceasedFull}
 use Rattle.model.specs.Rows.{pick, every, isEmpty}
 use Rattle.model.specs.Bounds.{list-places, heap-places, timer-places, last-number}
 use Rattle.model.specs.Answers.{done, fullOf}
-use Rattle.model.specs.Words.{Address, Event, Nothing, Joined, Recovered, Suspected, Deceased, Gossip, nothing, Timer, Action, Ping, WaitState, SendingPing, WaitingForPingAck, SendingPingReq, WaitingForPingReqAck, Declaring}
+use Rattle.model.specs.Words.{Address, isAlive, Event, Nothing, Joined, Recovered, Suspected, Deceased, Gossip, nothing, Timer, Action, Ping, WaitState, SendingPing, WaitingForPingAck, SendingPingReq, WaitingForPingReqAck, Declaring}
 use Rattle.model.specs.Node.{heapOf, Node, Out, lists, numbered, stateOf, heldDeath}
 use Rattle.model.specs.Handler.{believed, gossip}
-use Rattle.model.specs.Detector.{isOver}
+use Rattle.model.specs.Detector.{isOver, firstOver, timerAt}
 use Rattle.promises.specs.Firsts.{FirstFails}
 use Rattle.promises.specs.Reads.{pickReads}
 
@@ -84,9 +86,11 @@ module _ {A : Type 0} where
       ∷ (noRoom (w .pushes) s, fullFor (w .pushes))
       ∷ []
 
-  -- an ended timer, which emits Deceased: 13
-  abbrev pub endStops : Node A → List (Bool × Refusal)
-  endStops s = (heapFull kind.Deceased s, DeceasedFull) ∷ []
+  -- an ended timer, by the fate of its address: if it leaves, Deceased is emitted, 13
+  abbrev pub endStops : Fate → Node A → List (Bool × Refusal)
+  endStops Leaves s = (heapFull kind.Deceased s, DeceasedFull) ∷ []
+  endStops Stays s = []
+  endStops Absent s = []
 
 module _ {A : Type 0} (address : Address A) where
   -- what a gossip item asks for, by the handler's rules
@@ -163,6 +167,22 @@ module _ {A : Type 0} where
   StepDrawsShort address st s ds =
       ((st ≡ SendingPing) × (length ds < pingReads address s ds))
       ⊎ ((a : A) × (n : ℕ) × (st ≡ SendingPingReq a n) × (length (s .disseminator .alive) < heap-places) × (length ds < groupReads address a s ds))
+
+  -- "an ended timer removes its address only if it is listed, not Alive, and its number is no greater than the timer's"
+  abbrev pub Removes : Address A → Timer A → Node A → Type 0
+  Removes address t s = (lists address (t .addr) s ≡ true) × (isAlive (stateOf address (t .addr) s) ≡ false) × (numbered address (t .addr) s ≤ t .number)
+
+  -- "refuted": listed, but Alive or at a greater number
+  abbrev pub Refutes : Address A → Timer A → Node A → Type 0
+  Refutes address t s = (lists address (t .addr) s ≡ true) × ((isAlive (stateOf address (t .addr) s) ≡ true) ⊎ (t .number < numbered address (t .addr) s))
+
+  -- "already gone": not listed
+  abbrev pub IsGone : Address A → Timer A → Node A → Type 0
+  IsGone address t s = lists address (t .addr) s ≡ false
+
+  -- of the earliest started timer that is over something holds
+  abbrev pub Over : Address A → ℕ → ℕ → Node A → (Timer A → Type 0) → Type 0
+  Over address wait now s P = (i : ℕ) × (firstOver address wait now (s .timers) ≡ some i) × P (timerAt address i s)
 
   -- no running timer is over
   abbrev pub noneOver : ℕ → ℕ → List (Timer A) → Bool

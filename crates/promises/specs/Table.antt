@@ -1,4 +1,4 @@
--- THE TABLE, 6 TO 10, "ALREADY" AND "NOT DUE": when a call of `swim` gives each, of any result that meets its contract.
+-- THE TABLE, 6 TO 10 AND 13, "ALREADY", "NOT DUE", "REFUTED" AND "GONE": when a call of `swim` gives each, of any result that meets its contract.
 -- Assumes nothing.
 use mathlib.Core.Path.{_≡_, refl, _∙_, ap}
 use mathlib.Core.Logic.{_↔_}
@@ -12,13 +12,15 @@ use lib.Dec.{eqb}
 use Rattle.model.specs.declared.Refusal.{Refusal}
 use Rattle.model.specs.declared.Refusal.the-variants.{ListFull, DrawsShort, AliveFull, TimersFull, DeceasedFull}
 use Rattle.model.specs.declared.Cause.the-variants.{Record, Sender}
-use Rattle.model.specs.declared.Reply.the-variants.{Already, NotDue, RefusedAt}
+use Rattle.model.specs.declared.Reply.the-variants.{Already, NotDue, Refuted, Gone, RefusedAt}
 use Rattle.model.specs.Rows.{has}
 use Rattle.model.specs.Bounds.{list-places, heap-places}
 use Rattle.model.specs.Answers.{numberOf}
 use Rattle.address.specs.Here.{Addr, here}
+use Rattle.model.specs.Words as W
+use Rattle.model.specs.Node as M
 use Rattle.model.specs.Node.{lists}
-use Rattle.model.specs.Detector.{due}
+use Rattle.model.specs.Detector.{due, fateAt}
 use Rattle.model.specs.Calls as calls
 use Rattle.model.specs.Calls.{replyNumber, causeOf}
 use Rattle.types.specs.declared.Gossip.{Gossip}
@@ -33,11 +35,11 @@ use Rattle.swim.specs.declared.Outcome.{Outcome}
 use Rattle.swim.specs.Contracts.{room, outcomeOf, Adds, Receives, Steps, EndsTimer}
 use Rattle.swim.specs.Lookups.{handed}
 use Rattle.promises.specs.Firsts.{FirstFails, Passed, first-among}
-use Rattle.promises.specs.Stops.{stepStops, StopsAt, AdmissionStops, MessageStops, StepTimersFull, StepHeapFull, StepDrawsShort, noneOver}
-use Rattle.promises.specs.Stopping.{step-among}
+use Rattle.promises.specs.Stops.{stepStops, StopsAt, AdmissionStops, MessageStops, StepTimersFull, StepHeapFull, StepDrawsShort, Removes, Refutes, IsGone, Over, noneOver}
+use Rattle.promises.specs.Stopping.{end-among, step-among}
 use Rattle.promises.specs.Records.{message-among, tells-record, tells-sender}
-use Rattle.promises.specs.Given.{OneOf, numbers, add-table, message-table, message-cause, step-table, timer-table, add-no-cause, step-no-cause, timer-no-cause}
-use Rattle.promises.specs.Plainly.{add-full, add-short, end-full, step-timers-full, step-heap-full, step-draws-short}
+use Rattle.promises.specs.Given.{OneOf, numbers, add-table, message-table, message-cause, step-table, timer-table, timer-refutes, timer-finds-gone, add-no-cause, step-no-cause, timer-no-cause}
+use Rattle.promises.specs.Plainly.{add-full, add-short, end-full, end-refuted, end-gone, step-timers-full, step-heap-full, step-draws-short}
 use Rattle.promises.specs.Exactly.{as-told}
 
 -- tests, a condition and a list of tests, which is said in plain words
@@ -46,6 +48,10 @@ plainly h w = ((λ g. let p = h .0 g in (p .0, p .1 .0, w .0 (p .1 .1))), (λ p.
 
 also : {G T P Q : Type 0} → G ↔ (T × P) → P ↔ Q → G ↔ (T × Q)
 also h w = ((λ g. let p = h .0 g in (p .0, w .0 (p .1))), (λ p. h .1 (p .0, w .1 (p .1))))
+
+-- what is said of the timer that is over, in other words
+of-over : (wait now : ℕ) (s : M.Node Addr) {P Q : W.Timer Addr → Type 0} → ((t : W.Timer Addr) → P t ↔ Q t) → Over here wait now s P ↔ Over here wait now s Q
+of-over wait now s h = ((λ p. (p .0, p .1, h _ .0 (p .2))), (λ q. (q .0, q .1, h _ .1 (q .2))))
 
 -- ---- adding a peer
 module _ (node : Node) (a : Addr) (number : ℕ) (draws : List ℕ) (r : Answer) (met : Adds node a number draws r) where
@@ -134,10 +140,30 @@ module _ (node : Node) (tick : ℕ) (events : List Gossip) (r : Outcome) (e : Li
   unfolding outcomeOf answerOf storedView
   timer-not-due = as-told (λ i. met .answer i .answer .reply) (timer-table here (storedView node) tick (record { gossip = 0; events = length events }) .idles)
 
-  -- one is over, and its event finds the deceased heap full
-  pub timer-13 : (replyNumber (r .answer .reply) ≡ 13) ↔ (TimerPassed × (none-over ≡ false) × (heap-places ≤ length (handed node .disseminator .deceased)))
+  -- of the earliest started timer that is over something holds
+  abbrev over : (W.Timer Addr → Type 0) → Type 0
+  over P = Over here (node .settings .«suspect_timeout») tick (handed node) P
+
+  -- one is over, it would remove its address, and its event finds the deceased heap full
+  pub timer-13 : (replyNumber (r .answer .reply) ≡ 13) ↔ (TimerPassed × over (λ t. Removes here t (handed node) × (heap-places ≤ length (handed node .disseminator .deceased))))
   unfolding outcomeOf answerOf storedView
-  timer-13 = as-told (λ i. replyNumber (met .answer i .answer .reply)) (plainly (timer-table here (storedView node) tick (record { gossip = 0; events = length events }) .stops DeceasedFull (omega arith)) (end-full (handed node)))
+  timer-13 =
+      as-told (λ i. replyNumber (met .answer i .answer .reply))
+      (also (timer-table here (storedView node) tick (record { gossip = 0; events = length events }) .stops DeceasedFull (omega arith)) (of-over (node .settings .«suspect_timeout») tick (handed node) (λ t. end-full here t (handed node))))
+
+  -- one is over, and its address is listed, but Alive or at a greater number
+  pub timer-refuted : (r .answer .reply ≡ Refuted) ↔ (TimerPassed × over (λ t. Refutes here t (handed node)))
+  unfolding outcomeOf answerOf storedView
+  timer-refuted =
+      as-told (λ i. met .answer i .answer .reply)
+      (also (timer-refutes here (storedView node) tick (record { gossip = 0; events = length events })) (of-over (node .settings .«suspect_timeout») tick (handed node) (λ t. end-refuted here t (handed node))))
+
+  -- one is over, and its address is not listed
+  pub timer-gone : (r .answer .reply ≡ Gone) ↔ (TimerPassed × over (λ t. IsGone here t (handed node)))
+  unfolding outcomeOf answerOf storedView
+  timer-gone =
+      as-told (λ i. met .answer i .answer .reply)
+      (also (timer-finds-gone here (storedView node) tick (record { gossip = 0; events = length events })) (of-over (node .settings .«suspect_timeout») tick (handed node) (λ t. end-gone here t (handed node))))
 
   -- and never 6 to 10
   pub timer-numbers : OneOf (0 ∷ 2 ∷ 3 ∷ 13 ∷ []) (replyNumber (r .answer .reply))
@@ -145,7 +171,7 @@ module _ (node : Node) (tick : ℕ) (events : List Gossip) (r : Outcome) (e : Li
   timer-numbers =
       let ns : List ℕ = 0 ∷ 2 ∷ 3 ∷ 13 ∷ [] in
       ap (λ (o : Outcome). has eqb (replyNumber (o .answer .reply)) ns) (met .answer)
-      ∙ numbers (timer-table here (storedView node) tick (record { gossip = 0; events = length events })) ns refl (refl, (refl, tt)) (λ x h. first-among (λ y. OneOf ns (numberOf y)) (h .1) (refl, tt))
+      ∙ numbers (timer-table here (storedView node) tick (record { gossip = 0; events = length events })) ns refl (refl, (refl, tt)) (λ x h. first-among (λ y. OneOf ns (numberOf y)) (h .2) (end-among here (λ y. OneOf ns (numberOf y)) refl (fateAt here (h .0) (handed node)) (handed node)))
 
   pub timer-no-record : causeOf (r .answer .reply) ≡ none
   unfolding outcomeOf answerOf

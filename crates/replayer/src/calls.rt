@@ -44,6 +44,8 @@ fn is_refused(reply: Reply) -> bool {
         Reply::Done(_) => false,
         Reply::Already => false,
         Reply::NotDue => false,
+        Reply::Refuted => false,
+        Reply::Gone => false,
         Reply::Refused(_) => true,
         Reply::RefusedAt(_, _) => true,
     }

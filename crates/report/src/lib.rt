@@ -207,6 +207,8 @@ fn put_verdict(out: &mut [u8], at: usize, reply: Reply) -> usize {
         }
         Reply::Already => put_bytes(out, at, b"= already"),
         Reply::NotDue => put_bytes(out, at, b"= notdue"),
+        Reply::Refuted => put_bytes(out, at, b"= refuted"),
+        Reply::Gone => put_bytes(out, at, b"= gone"),
         Reply::Refused(refusal) => put_refusal(out, at, refusal),
         Reply::RefusedAt(refusal, cause) => {
             let number = put_refusal(out, at, refusal);

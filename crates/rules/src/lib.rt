@@ -117,21 +117,11 @@ fn recovered(members: Members, a: Address, number: u64) -> Verdict
     weighed(held.listed, higher, back, Verdict::Low, Verdict::Unknown)
 }
 
-fn is_alive(state: State) -> bool
-    ensures { λ r. ⌜ r ≡ isAlive state ⌝ }
-{
-    match state {
-        State::Alive => true,
-        State::Pending => false,
-        State::Suspected => false,
-    }
-}
-
 // if Alive and ≥, or not Alive and >
 fn believed(state: State, held: u64, number: u64) -> bool
     ensures { λ r. ⌜ r ≡ handler.believed state held number ⌝ }
 {
-    if is_alive(state) {
+    if model::is_alive(state) {
         held <= number
     } else {
         held < number
@@ -142,7 +132,7 @@ fn believed(state: State, held: u64, number: u64) -> bool
 fn doubted(state: State, held: u64, number: u64) -> Verdict
     ensures { λ r. ⌜ r ≡ rows.pick (not (isAlive state) && eqb number held) Verdict.Equal Verdict.Low ⌝ }
 {
-    if is_alive(state) {
+    if model::is_alive(state) {
         return Verdict::Low;
     }
     if number == held {

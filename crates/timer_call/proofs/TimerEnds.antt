@@ -1,35 +1,37 @@
 -- An ended timer, and the timer call: each way out.
 -- Assumes nothing.
 use mathlib.Core.Path.{_≡_, refl, ap, sym, _∙_}
-use mathlib.Core.Bool.{Bool, true, false, not, _||_}
+use mathlib.Core.Bool.{Bool, true, false, not, _&&_, _||_}
 use mathlib.Core.List.{List, [], _∷_}
 use mathlib.Core.Option.{Option, none, some}
-use Prim.Native.Nat.{ℕ, zero, suc, _≤_, _<_}
+use Prim.Native.Nat.{ℕ, _≤_, _<_}
 use native.Mathlib.Omega.{arith}
-use lib.ListN.{length, getD, take, replicate, List·getD-map}
+use lib.ListN.{getD, take, replicate, List·getD-map}
 use lib.Seq.{getD-take}
-use lib.Dec.{ltb}
-use borrow.Author.Tests.{lt-ltb, le-ltb}
+use lib.Dec.{ltb, leb}
+use borrow.Author.Tests.{lt-ltb, le-ltb, lt-leb, le-leb}
 use Rattle.model.specs.declared.Kind.the-variants as kind
 use Rattle.model.specs.declared.Refusal.{Refusal}
 use Rattle.model.specs.declared.Refusal.the-variants.{Unsound, ShortRow, DeceasedFull}
 use Rattle.model.specs.declared.Reply.{Reply}
-use Rattle.model.specs.declared.Reply.the-variants.{Done, NotDue, Refused}
-use Rattle.model.specs.Rows.{pick, every, removeAt}
-use Rattle.laws.specs.Bools.{and-split, and-join}
+use Rattle.model.specs.declared.Reply.the-variants.{Done, NotDue, Refuted, Gone, Refused}
+use Rattle.model.specs.declared.Fate.{Fate}
+use Rattle.model.specs.declared.Fate.the-variants.{Leaves, Stays, Absent}
+use Rattle.model.specs.Rows.{pick, removeAt}
 use Rattle.model.specs.Bounds.{Room, timer-room}
 use Rattle.model.specs.Answers.{Answer}
-use Rattle.laws.specs.Pad.{length-removeAt}
 use Rattle.address.specs.Here.{Addr, here, here-lawful}
 use Rattle.model.specs.Words as W
+use Rattle.model.specs.Words.{isAlive}
 use Rattle.model.specs.Members as list
 use Rattle.model.specs.Node as M
 use Rattle.model.specs.Detector as D
 use Rattle.model.specs.Sound.{sound}
-use Rattle.model.specs.Calls.{Outcome, unchanged, refuses, short, kept, reports, endsAt, endTimer}
+use Rattle.model.specs.Calls.{Outcome, unchanged, refuses, short, keptEnd, reports, endsAt, endTimer}
 use Rattle.laws_node.specs.Good.{Good}
-use Rattle.laws_rules.specs.Keeps.{with-timers, leave-keeps}
-use Rattle.laws_rules.specs.KeepsCalls.{first-over-in}
+use Rattle.laws_rules.specs.Keeps.{leave-keeps}
+use Rattle.laws_rules.specs.KeepsCalls.{freed-good, first-over-in}
+use Rattle.laws_rules.specs.Judged.{Fated, fated-leaves, fated-alive, fated-greater, fated-absent, fated}
 use Rattle.laws.specs.Packing.{view-length}
 use Rattle.types.specs.declared.Gossip.{Gossip}
 use Rattle.types.specs.declared.Event.{Event}
@@ -41,7 +43,8 @@ use Rattle.timers.specs.Views.{toTimer, fromTimer, noTimer, timersView, packTim
 use Rattle.timers.specs.declared.Ending.the-variants.{Nothing, At}
 use Rattle.disseminate.specs.Views.{heldOr, viewDisseminator, Pushed}
 use Rattle.member.specs.declared.Members.{Members}
-use Rattle.member.specs.Views.{packMembers, viewMembers}
+use Rattle.member.specs.declared.Standing.{Standing}
+use Rattle.member.specs.Views.{packMembers, viewMembers, standingOf}
 use Rattle.node.specs.declared.Node.{Node}
 use Rattle.node.specs.Views.{viewNode, packNode, storedView, withMembers, withDisseminator, withTimers, plainAnswer, answerOf}
 use Rattle.node.specs.Rows.{Ready, ready-pack, loaded-view, view-pack}
@@ -49,17 +52,12 @@ use Rattle.node.specs.Parts.{part-members, part-timers}
 use Rattle.node.specs.Emitting.{emit-full, emit-kept}
 use Rattle.node.specs.Ends.{test-fails, test-passes, unchanged-is, kept-is}
 use Rattle.timer_call.specs.declared.Ended.{Ended}
-use Rattle.timer_call.specs.Views.{endedOf, plainEnd}
+use Rattle.timer_call.specs.Views.{endedOf, endedBy, plainEnd}
 
 -- a call that hands everything back as it came
 pub plain-end : (reply : Reply) (n : Node) → plainEnd reply n ≡ endedOf (unchanged reply (storedView n))
 unfolding endedOf
 plain-end reply n = λ i. record { answer = sym (unchanged-is reply n) i; events = replicate 1 noGossip; reported = 0 }
-
-every-removeAt : {B : Type 0} (f : B → Bool) (l : List B) (i : ℕ) → every f l ≡ true → every f (removeAt l i) ≡ true
-every-removeAt f [] i e = refl
-every-removeAt f (x ∷ l) zero e = and-split (f x) (every f l) e .1
-every-removeAt f (x ∷ l) (suc i) e = let p = and-split (f x) (every f l) e in and-join (p .0) (every-removeAt f l i (p .1))
 
 -- the timer at a used place
 abbrev pub timerAt : Node → ℕ → Timer
@@ -74,12 +72,92 @@ saidEnd n g = record { answer = plainAnswer (Done 0) n; events = g ∷ []; repor
 
 said-end : (s : M.Node Addr) (n : Node) (g : Gossip) → n ≡ packNode s → saidEnd n g ≡ endedOf (record { reply = Done 0; node = M.stored here s; messages = []; events = toGossip g ∷ [] })
 unfolding endedOf answerOf
-said-end s n g e = λ i. record { answer = kept-is 0 s n e i; events = sym (from-to-gossip g) i ∷ []; reported = 1 }
+said-end s n g e = λ i. record { answer = kept-is (Done 0) s n e i; events = sym (from-to-gossip g) i ∷ []; reported = 1 }
 
-leaves : (a : Addr) (s : M.Node Addr) (u : Bool) → M.withMembers s (pick u (list.remove (here .same) a (s .members)) (s .members)) ≡ pick u (M.leave here a s) s
-unfolding M.leave
-leaves a s true = refl
-leaves a s false = refl
+-- nothing was, and the node is another
+quiet-end : (reply : Reply) (s : M.Node Addr) (n : Node) → n ≡ packNode s → plainEnd reply n ≡ endedOf (record { reply = reply; node = M.stored here s; messages = []; events = [] })
+unfolding endedOf
+quiet-end reply s n e = λ i. record { answer = kept-is reply s n e i; events = replicate 1 noGossip; reported = 0 }
+
+-- the timer at a used place of a ready node
+module _ (n : Node) (r : Ready n) (i : ℕ) where
+  -- one timer less
+  abbrev fewer : M.Node Addr
+  fewer = D.freed here i (viewNode n)
+
+  fewer-good : Good here fewer
+  fewer-good = freed-good here here-lawful i (viewNode n) (r .good)
+
+  fewer-is : (ts : Timers) → ts ≡ packTimers (removeAt (timersView (n .timers)) i) → withTimers n ts ≡ packNode fewer
+  unfolding viewNode
+  fewer-is ts e = part-timers n r (removeAt (viewNode n .timers) i) ts e
+
+  abbrev onlyEnded : Reply → Ended
+  onlyEnded reply = plainEnd reply (withTimers n (packTimers (removeAt (timersView (n .timers)) i)))
+
+  -- its address stays, or is absent
+  pub end-stays : onlyEnded Refuted ≡ endedBy Stays n i
+  unfolding D.byFate M.quiet
+  end-stays = quiet-end Refuted fewer _ (fewer-is _ refl)
+
+  pub end-absent : onlyEnded Gone ≡ endedBy Absent n i
+  unfolding D.byFate M.quiet
+  end-absent = quiet-end Gone fewer _ (fewer-is _ refl)
+
+  module _ (h : i < n .timers .len) where
+    pub timer-is : D.timerAt here i (viewNode n) ≡ toTimer (timerAt n i)
+    unfolding viewNode
+    timer-is = timer-at (n .timers) i h
+
+    -- what the code judged is the timer's fate
+    pub fate-is : (v : Fate) → v ≡ D.fateOf here (toTimer (timerAt n i)) (viewMembers (n .members) .table) → v ≡ D.fateAt here i (viewNode n)
+    unfolding viewNode
+    fate-is v e = e ∙ ap (λ (x : W.Timer Addr). D.fateOf here x (viewNode n .members .table)) (sym timer-is)
+
+-- what the code found of a timer's address, and its fate by that
+module _ (t : W.Timer Addr) (m : Members) (h : Standing) (e : h ≡ standingOf m (t .addr)) where
+  abbrev fate : Fate
+  fate = D.fateOf here t (viewMembers m .table)
+
+  abbrev fateBy : Bool → Bool → Bool → Fate
+  fateBy l a g = pick l (pick (not a && g) Leaves Stays) Absent
+
+  found : fateBy (h .listed) (isAlive (h .state)) (leb (h .number) (t .number)) ≡ fate
+  unfolding D.fateOf
+  found = ap (λ (x : Standing). fateBy (x .listed) (isAlive (x .state)) (leb (x .number) (t .number))) e
+
+  pub found-absent : h .listed ≡ false → Absent ≡ fate
+  found-absent l = sym (ap (λ (u : Bool). fateBy u (isAlive (h .state)) (leb (h .number) (t .number))) l) ∙ found
+
+  module _ (l : h .listed ≡ true) where
+    listed-found : fateBy true (isAlive (h .state)) (leb (h .number) (t .number)) ≡ fate
+    listed-found = sym (ap (λ (u : Bool). fateBy u (isAlive (h .state)) (leb (h .number) (t .number))) l) ∙ found
+
+    pub found-alive : isAlive (h .state) ≡ true → Stays ≡ fate
+    found-alive a = sym (ap (λ (u : Bool). fateBy true u (leb (h .number) (t .number))) a) ∙ listed-found
+
+    module _ (a : isAlive (h .state) ≡ false) where
+      by-number : (u : Bool) → leb (h .number) (t .number) ≡ u → pick u Leaves Stays ≡ fate
+      by-number u g = sym (λ i. fateBy true (a i) (g i)) ∙ listed-found
+
+      pub found-greater : t .number < h .number → Stays ≡ fate
+      found-greater g = by-number false (lt-leb (h .number) (t .number) g)
+
+      pub found-leaves : h .number ≤ t .number → Leaves ≡ fate
+      found-leaves g = by-number true (le-leb (h .number) (t .number) g)
+
+pub only-ended : (reply : Reply) (n m : Node) (ts us : Timers) (r : Ended) → r ≡ plainEnd reply m → m ≡ withTimers n ts → ts ≡ us → r ≡ plainEnd reply (withTimers n us)
+only-ended reply n m ts us r e f g = e ∙ ap (plainEnd reply) (f ∙ ap (withTimers n) g)
+
+-- one that leaves is listed
+leaves-listed : (t : W.Timer Addr) (m : List (W.Member Addr)) (v : Fate) → Fated here t m v → v ≡ Leaves → list.listed (here .same) (t .addr) m ≡ true
+leaves-listed t m _ (fated-leaves l a h) e = l
+leaves-listed t m _ (fated-alive l a) e = l
+leaves-listed t m _ (fated-greater l h) e = l
+leaves-listed t m _ (fated-absent l) e = let z : _≡_ {A = ℕ} 0 1 = cc in absurd (omega arith)
+
+pub leaves-there : (i : ℕ) (s : M.Node Addr) → D.fateAt here i s ≡ Leaves → M.lists here (D.timerAt here i s .addr) s ≡ true
+leaves-there i s e = leaves-listed (D.timerAt here i s) (s .members .table) _ (fated here (D.timerAt here i s) (s .members .table)) e
 
 -- a death was pushed: what the code has of it
 pub record Death : Type 0 where
@@ -87,10 +165,11 @@ pub record Death : Type 0 where
   pub ready : Ready node
   pub place : ℕ
   pub within : place < node .timers .len
+  pub there : M.lists here (D.timerAt here place (viewNode node) .addr) (viewNode node) ≡ true
   pub timers : Timers
   pub timers-is : timers ≡ packTimers (removeAt (timersView (node .timers)) place)
   pub members : Members
-  pub members-is : members ≡ packMembers (pick (list.listed (here .same) (timerAt node place .addr) (viewMembers (node .members) .table)) (list.remove (here .same) (timerAt node place .addr) (viewMembers (node .members))) (viewMembers (node .members)))
+  pub members-is : members ≡ packMembers (list.remove (here .same) (timerAt node place .addr) (viewMembers (node .members)))
   pub gossip : Gossip
   pub named : gossip .event ≡ Deceased (node .own) (timerAt node place .addr) (timerAt node place .number)
   pub pushed : Pushed
@@ -101,59 +180,48 @@ module _ (q : Death) where
   dead = timerAt (q .node) (q .place) .addr
 
   -- the node with one timer less, and without that timer's address
-  abbrev fewer : M.Node Addr
-  fewer = M.withTimers (viewNode (q .node)) (removeAt (viewNode (q .node) .timers) (q .place))
+  abbrev less : M.Node Addr
+  less = fewer (q .node) (q .ready) (q .place)
 
   abbrev gone : M.Node Addr
-  gone = pick (M.lists here dead fewer) (M.leave here dead fewer) fewer
+  gone = M.leave here dead less
 
-  few : q .place < length (viewNode (q .node) .timers)
-  unfolding viewNode
-  few = omega (arith, q .within, view-length toTimer fromTimer (λ b. refl) 16 noTimer (q .node .timers .entries) (q .node .timers .len) (q .ready .timers))
-
-  fewer-good : Good here fewer
-  fewer-good =
-      with-timers here (viewNode (q .node)) (removeAt (viewNode (q .node) .timers) (q .place)) (q .ready .good) (omega (arith, length-removeAt (viewNode (q .node) .timers) (q .place) few, q .ready .good .few))
-      (every-removeAt (λ (t : W.Timer Addr). here .valid (t .addr)) (viewNode (q .node) .timers) (q .place) (q .ready .good .timers))
-
-  fewer-is : withTimers (q .node) (q .timers) ≡ packNode fewer
-  unfolding viewNode
-  fewer-is = part-timers (q .node) (q .ready) (removeAt (viewNode (q .node) .timers) (q .place)) (q .timers) (q .timers-is)
+  dead-is : D.timerAt here (q .place) (viewNode (q .node)) ≡ toTimer (timerAt (q .node) (q .place))
+  dead-is = timer-is (q .node) (q .ready) (q .place) (q .within)
 
   gone-good : Good here gone
   gone-good =
-      (elim (M.lists here dead fewer) as (λ u. M.lists here dead fewer ≡ u → Good here (pick u (M.leave here dead fewer) fewer)) [
-        | true ↦ λ e. leave-keeps here here-lawful dead fewer fewer-good e .good
-        | false ↦ λ e. fewer-good
-      ]) refl
+      leave-keeps here here-lawful dead less (fewer-good (q .node) (q .ready) (q .place))
+      (ap (λ (x : W.Timer Addr). M.lists here (x .addr) less) (sym dead-is) ∙ q .there) .good
 
   -- of which the code makes the timers and the list
   abbrev left : Node
   left = withMembers (withTimers (q .node) (q .timers)) (q .members)
 
   gone-is : left ≡ packNode gone
-  unfolding viewNode
+  unfolding viewNode M.leave
   gone-is =
       let m = withTimers (q .node) (q .timers) in
-      part-members m (rw fewer-is (ready-pack fewer fewer-good)) (pick (M.lists here dead (viewNode m)) (list.remove (here .same) dead (viewNode m .members)) (viewNode m .members)) (q .members) (q .members-is)
-      ∙ ap packNode (leaves dead (viewNode m) (M.lists here dead (viewNode m)))
-      ∙ ap (λ (x : M.Node Addr). packNode (pick (M.lists here dead x) (M.leave here dead x) x)) (ap viewNode fewer-is ∙ view-pack fewer (fewer-good .whole))
+      let is = fewer-is (q .node) (q .ready) (q .place) (q .timers) (q .timers-is) in
+      let good = fewer-good (q .node) (q .ready) (q .place) in
+      part-members m (rw is (ready-pack less good)) (list.remove (here .same) dead (viewNode m .members)) (q .members) (q .members-is)
+      ∙ ap (λ (x : M.Node Addr). packNode (M.leave here dead x)) (ap viewNode is ∙ view-pack less (good .whole))
 
   abbrev outcome : Answer (M.Out Addr) → Ended
-  outcome x = endedOf (kept here (storedView (q .node)) [] (reports here x))
+  outcome x = endedOf (keptEnd here (storedView (q .node)) Leaves (reports here x))
 
-  ends : D.endAt here (q .place) (viewNode (q .node)) [] ≡ M.emit here kind.Deceased (toGossip (q .gossip)) gone []
-  unfolding D.endAt D.ended viewNode
+  ends : D.byFate here Leaves (D.timerAt here (q .place) (viewNode (q .node))) less [] ≡ M.emit here kind.Deceased (toGossip (q .gossip)) gone []
+  unfolding D.byFate viewNode
   ends =
-      ap (λ (x : W.Timer Addr). D.ended here x fewer []) (timer-at (q .node .timers) (q .place) (q .within))
+      ap (λ (x : W.Timer Addr). D.byFate here Leaves x less []) dead-is
       ∙ ap (λ (x : Event). M.emit here kind.Deceased (record { event = toEvent x }) gone []) (sym (q .named))
 
-  pub end-full : q .pushed .full ≡ true → plainEnd (Refused DeceasedFull) (q .node) ≡ outcome (D.endAt here (q .place) (viewNode (q .node)) [])
+  pub end-full : q .pushed .full ≡ true → plainEnd (Refused DeceasedFull) (q .node) ≡ endedBy Leaves (q .node) (q .place)
   end-full h =
       plain-end (Refused DeceasedFull) (q .node)
       ∙ sym (ap outcome (ends ∙ emit-full kind.Deceased (toGossip (q .gossip)) [] gone-good gone-is (q .pushed-is) h))
 
-  pub end-kept : q .pushed .full ≡ false → saidEnd (withDisseminator left (q .pushed .disseminator)) (q .gossip) ≡ outcome (D.endAt here (q .place) (viewNode (q .node)) [])
+  pub end-kept : q .pushed .full ≡ false → saidEnd (withDisseminator left (q .pushed .disseminator)) (q .gossip) ≡ endedBy Leaves (q .node) (q .place)
   end-kept h =
       let k = emit-kept kind.Deceased (toGossip (q .gossip)) [] gone-good gone-is (q .pushed-is) h in
       said-end (k .after) (withDisseminator left (q .pushed .disseminator)) (q .gossip) (k .node) ∙ sym (ap outcome (ends ∙ k .is))
@@ -225,7 +293,8 @@ module _ (q : Call) where
       pub end-not-due : over (viewNode (q .node)) ≡ none → plainEnd NotDue (q .node) ≡ called
       end-not-due z = plain-end NotDue (q .node) ∙ sym (ap endedOf (passed ∙ ap (endsAt here s) z))
 
-      pub end-due : {i : ℕ} → over (viewNode (q .node)) ≡ some i → endedOf (kept here s [] (reports here (D.endAt here i (viewNode (q .node)) []))) ≡ called
+      pub end-due : {i : ℕ} → over (viewNode (q .node)) ≡ some i → endedBy (D.fateAt here i (viewNode (q .node))) (q .node) i ≡ called
+      unfolding D.endAt
       end-due {i} z =
-          ap (λ (m : M.Node Addr). endedOf (kept here s [] (reports here (D.endAt here i m [])))) (sym (loaded-view (q .node)))
+          ap (λ (m : M.Node Addr). endedOf (keptEnd here s (D.fateAt here i m) (reports here (D.endAt here i m [])))) (sym (loaded-view (q .node)))
           ∙ sym (ap endedOf (passed ∙ ap (endsAt here s) z))

@@ -1,26 +1,29 @@
 // The timer call: the earliest started timer that is over ends.
-use address::Address;
 use disseminate::Disseminator;
 use member::Members;
+use model::Fate;
 use model::Refusal;
 use model::Reply;
 use node::Answer;
 use node::Node;
 use timers::Ending;
+use timers::Timer;
 use types::Event;
 use types::Gossip;
 ghost use mathlib.Core.Path.{_≡_};
-ghost use mathlib.Core.List.{[]};
+ghost use mathlib.Core.Bool.{true};
 ghost use Prim.Native.Nat.{_≤_, _<_};
 ghost use Rattle.address.specs.Here.{here};
-ghost use Rattle.model.specs.Rows.{pick};
-ghost use Rattle.model.specs.Members as list;
+ghost use Rattle.model.specs.declared.Fate.the-variants as Fate;
+ghost use Rattle.model.specs.Rows.{removeAt};
+ghost use Rattle.model.specs.Node.{lists};
 ghost use Rattle.model.specs.Detector as D;
 ghost use Rattle.model.specs.Calls as calls;
-ghost use Rattle.member.specs.Views.{Held, viewMembers, packMembers};
-ghost use Rattle.node.specs.Views.{storedView, viewNode};
+ghost use Rattle.member.specs.Views.{Held, viewMembers};
+ghost use Rattle.timers.specs.Views.{toTimer, timersView, packTimers};
+ghost use Rattle.node.specs.Views.{storedView, viewNode, withTimers};
 ghost use Rattle.node.specs.Rows.{Ready};
-ghost use Rattle.timer_call.specs.Views.{endedOf, plainEnd};
+ghost use Rattle.timer_call.specs.Views.{endedOf, endedBy, plainEnd};
 
 // What a timer call gives: its answer, and the event that it reported.
 pub struct Ended {
@@ -49,28 +52,46 @@ impl Ended {
     }
 }
 
-// An address is removed if it is listed.
-fn without(members: Members, a: Address) -> Members
+// What becomes of a timer's address: it leaves if it is listed, not Alive, and its number is no greater than the timer's.
+fn fate_of(members: Members, timer: Timer) -> Fate
     requires { ⌜ Held members ⌝ }
-    ensures { λ r. ⌜ r ≡ packMembers (pick (list.listed (here .same) a (viewMembers members .table)) (list.remove (here .same) a (viewMembers members)) (viewMembers members)) ⌝ }
+    ensures { λ r. ⌜ r ≡ D.fateOf here (toTimer timer) (viewMembers members .table) ⌝ }
 {
-    if members.lists(a) {
-        return members.remove_member(a);
+    let held = members.find(timer.addr);
+    if !held.listed {
+        return Fate::Absent;
     }
-    members
+    let state = held.state;
+    if model::is_alive(state) {
+        return Fate::Stays;
+    }
+    if timer.number < held.number {
+        return Fate::Stays;
+    }
+    Fate::Leaves
 }
 
-// The timer at a place ends: its address is removed, Deceased emitted at its number, its place reused.
-fn end_at(node: Node, place: usize) -> Ended
+// The timer at a place ends, and nothing else: its place is reused.
+fn only_end(node: Node, place: usize, reply: Reply) -> Ended
     requires { ⌜ Ready node × (place < node .timers .len) ⌝ }
-    ensures { λ r. ⌜ (r ≡ endedOf (calls.kept here (storedView node) [] (calls.reports here (D.endAt here place (viewNode node) [])))) × (r .reported ≤ 1) ⌝ }
+    ensures { λ r. ⌜ r ≡ plainEnd reply (withTimers node (packTimers (removeAt (timersView (node .timers)) place))) ⌝ }
+{
+    let timers = node.timers;
+    let after = timers.end(place);
+    Ended::plain(reply, node.with_timers(after))
+}
+
+// The timer at a place ends and its address leaves: Deceased is emitted at the timer's number.
+fn remove_at(node: Node, place: usize) -> Ended
+    requires { ⌜ Ready node × (place < node .timers .len) × (lists here (D.timerAt here place (viewNode node) .addr) (viewNode node) ≡ true) ⌝ }
+    ensures { λ r. ⌜ (r ≡ endedBy Fate.Leaves node place) × (r .reported ≤ 1) ⌝ }
 {
     let timers = node.timers;
     let entries = timers.entries;
     let timer = entries[place];
     let after = timers.end(place);
     let members = node.members;
-    let left = without(members, timer.addr);
+    let left = members.remove_member(timer.addr);
     let gossip = Gossip {
         event: Event::new_node_deceased(node.own, timer.addr, timer.number),
     };
@@ -93,6 +114,22 @@ fn end_at(node: Node, place: usize) -> Ended
         answer: Answer::plain(Reply::Done(0), said),
         events,
         reported: 1,
+    }
+}
+
+// The timer at a place ends, by its address's fate.
+fn end_at(node: Node, place: usize) -> Ended
+    requires { ⌜ Ready node × (place < node .timers .len) ⌝ }
+    ensures { λ r. ⌜ (r ≡ endedBy (D.fateAt here place (viewNode node)) node place) × (r .reported ≤ 1) ⌝ }
+{
+    let timers = node.timers;
+    let entries = timers.entries;
+    let timer = entries[place];
+    let fate = fate_of(node.members, timer);
+    match fate {
+        Fate::Leaves => remove_at(node, place),
+        Fate::Stays => only_end(node, place, Reply::Refuted),
+        Fate::Absent => only_end(node, place, Reply::Gone),
     }
 }
 

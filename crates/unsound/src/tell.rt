@@ -12,6 +12,8 @@ fn refusal(reply: Reply) -> u64 {
         Reply::Done(_) => 0,
         Reply::Already => 0,
         Reply::NotDue => 0,
+        Reply::Refuted => 0,
+        Reply::Gone => 0,
         Reply::Refused(refusal) => model::refusal_number(refusal) as u64,
         Reply::RefusedAt(refusal, _) => model::refusal_number(refusal) as u64,
     }

@@ -46,7 +46,7 @@ pub kept-step : (used : ℕ) (s : M.Node Addr) (n : Node) (w : W.Wait Addr) (v :
 unfolding steppedOf
 kept-step used s n w v e f =
     λ i. record {
-      answer = kept-is used s n e i;
+      answer = kept-is (Done used) s n e i;
       wait = f i;
       gossip = replicate 256 noGossip;
       written = 0;

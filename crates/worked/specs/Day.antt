@@ -8,7 +8,7 @@ use mathlib.Core.Option.{none}
 use Prim.Native.Nat.{ℕ}
 use Rattle.model.specs.Bounds.{message-room, step-room, timer-room}
 use Rattle.address.specs.IPv4.{ipv4}
-use Rattle.model.specs.Words.{Event, Joined, Deceased, Gossip, Ping, Ack, SendingPingReq}
+use Rattle.model.specs.Words.{Event, Joined, Deceased, Gossip, Ping, Ack, SendingPingReq, Declaring}
 use Rattle.model.specs.Node.{loaded, lists, numbered}
 use Rattle.model.specs.Answers as answers
 use Rattle.model.specs.Rows as rows
@@ -54,10 +54,18 @@ day =
     -- the host lends a wait record of its own making: B is suspected at 1 and keeps its number
     ∷ Lends (record { state = SendingPingReq B 1; since = 0 })
     ∷ Step 30 (0 ∷ 0 ∷ 0 ∷ 0 ∷ []) step-room
-    -- the time-out that still ran takes it out
+    -- the time-out that still ran is refuted: it is of B at 4, and B is at 7
     ∷ Timer 40 timer-room
     -- and nothing else is over
     ∷ Timer 41 timer-room
+    -- a time-out of B at 7 starts, and takes it out
+    ∷ Lends (record { state = Declaring B 7; since = 41 })
+    ∷ Step 41 [] step-room
+    ∷ Timer 51 timer-room
+    -- another starts that finds B gone
+    ∷ Lends (record { state = Declaring B 7; since = 51 })
+    ∷ Step 51 [] step-room
+    ∷ Timer 61 timer-room
     ∷ []
 
 -- the ledger's entries, departures and greatest reported number; whether B is listed, and its number
@@ -101,8 +109,14 @@ pub worked-day : follow day (start ipv4 settings own 0 0) (begun ipv4 B own) ≡
     ∷ (counted 2 1 7 true 7)
     ∷ (counted 2 1 7 true 7)
     ∷ (counted 2 1 7 true 7)
+    ∷ (counted 2 1 7 true 7)
+    ∷ (counted 2 1 7 true 7)
+    ∷ (counted 2 1 7 true 7)
+    ∷ (counted 2 1 7 true 7)
+    ∷ (counted 2 2 7 false 0)
+    ∷ (counted 2 2 7 false 0)
     ∷ (counted 2 2 7 false 0)
     ∷ (counted 2 2 7 false 0)
     ∷ []
-unfolding answers.when rows.swap limit.leastFrom limit.leastPower limit.limitOf size.varintFrom size.varintLength size.numberSize size.sizeOver size.sizeOf ipv4.digits ipv4.textLength words.partsOf words.sameGossip heap.climbIn heap.climb heap.lower heap.downIn heap.down heap.push heap.sinkTop heap.removeTop heap.allBelow choosing.termsOf choosing.wasNoted choosing.takeTop choosing.tryHeap choosing.tryAlive choosing.tryDeceased choosing.over choosing.rounds choosing.choose choosing.orElse choosing.death list.shuffle list.advance list.added list.add list.remove list.update list.seek list.pickFrom M.quiet M.andMore M.pushed M.emit M.change M.leave M.spread M.loaded M.stored M.fresh handler.joinedAt handler.joined handler.recovered handler.believed handler.suspectedOther handler.suspected handler.deceased handler.judgeSender handler.listAfter handler.newsOf handler.act handler.item handler.admit handler.acked handler.answerTo handler.forwarded handler.handle D.isOver D.due D.pinged D.sendPing D.heard D.waited D.suspect D.asked D.pickGroup D.sendPingReq D.declare D.firstOver D.ended D.endAt sounds.inRange sounds.positioned sounds.validGossip sounds.soundEntry sounds.soundHeap sounds.soundMembers sounds.soundTimers sounds.sound calls.create calls.addPeer calls.validAction calls.validState calls.message calls.detect calls.endTimer
+unfolding answers.when rows.swap limit.leastFrom limit.leastPower limit.limitOf size.varintFrom size.varintLength size.numberSize size.sizeOver size.sizeOf ipv4.digits ipv4.textLength words.partsOf words.sameGossip heap.climbIn heap.climb heap.lower heap.downIn heap.down heap.push heap.sinkTop heap.removeTop heap.allBelow choosing.termsOf choosing.wasNoted choosing.takeTop choosing.tryHeap choosing.tryAlive choosing.tryDeceased choosing.over choosing.rounds choosing.choose choosing.orElse choosing.death list.shuffle list.advance list.added list.add list.remove list.update list.seek list.pickFrom M.quiet M.andMore M.pushed M.emit M.change M.leave M.spread M.loaded M.stored M.fresh handler.joinedAt handler.joined handler.recovered handler.believed handler.suspectedOther handler.suspected handler.deceased handler.judgeSender handler.listAfter handler.newsOf handler.act handler.item handler.admit handler.acked handler.answerTo handler.forwarded handler.handle D.isOver D.due D.pinged D.sendPing D.heard D.waited D.suspect D.asked D.pickGroup D.sendPingReq D.declare D.firstOver D.fateOf D.byFate D.endAt sounds.inRange sounds.positioned sounds.validGossip sounds.soundEntry sounds.soundHeap sounds.soundMembers sounds.soundTimers sounds.sound calls.create calls.addPeer calls.validAction calls.validState calls.message calls.detect calls.endTimer
 worked-day = refl

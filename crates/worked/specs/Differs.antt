@@ -10,6 +10,7 @@ use Prim.Native.Nat.{ℕ, zero, suc}
 use lib.ListN.{length, replicate}
 use lib.Dec.{eqb}
 use Rattle.model.specs.declared.Kind.the-variants as kind
+use Rattle.model.specs.declared.State.{State}
 use Rattle.model.specs.declared.State.the-variants as state
 use Rattle.model.specs.Rows.{every, swap}
 use Rattle.laws.specs.Bools.{and-split}
@@ -24,7 +25,7 @@ use Rattle.model.specs.Choose.{termsOf, wasNoted, takeTop, tryHeap, tryAlive, t
 use Rattle.model.specs.Members.{Members, shuffle, advance, added, add, remove, update, seek, pickFrom}
 use Rattle.model.specs.Node.{Node, Out, stored, loaded, withDisseminator, withTimers, quiet, andMore, pushed, emit, change, leave, spread}
 use Rattle.model.specs.Handler.{Enter, judgeSender, listAfter, newsOf, act, joinedAt, joined, recovered, believed, suspectedOther, suspected, deceased, item, gossip, causeAt, stopsAt, admit, answerTo, handle}
-use Rattle.model.specs.Detector.{Stepped, isOver, due, enters, pinged, sendPing, heard, waited, suspect, asked, pickGroup, sendPingReq, declare}
+use Rattle.model.specs.Detector.{Stepped, isOver, due, enters, pinged, sendPing, heard, waited, suspect, asked, pickGroup, sendPingReq, declare, fateOf, byFate, endAt}
 use Rattle.model.specs.Sound.{inRange, positioned, validGossip, soundEntry, soundHeap, soundMembers, soundTimers, sound}
 use Rattle.model.specs.Calls.{packed, validAction, validState, addPeer, message, detect, endTimer}
 use Rattle.worked.specs.Cabinet.{own, B, C, host, says, member, members, node, withB, ruleOf}
@@ -128,6 +129,14 @@ fullAfterADeath n = withDisseminator listFull (record { alive = []; deceased = (
 abbrev timersFull : Node ℕ
 timersFull = withTimers alone (replicate 16 (record { addr = C; number = 1; since = 2 }))
 
+-- a timer of B at 4 runs
+abbrev timed : Node ℕ → Node ℕ
+timed s = withTimers s (record { addr = B; number = 4; since = 2 } ∷ [])
+
+-- the deceased heap is full
+abbrev withB-full : State → Node ℕ
+withB-full st = withDisseminator (withB st 4) (deathsFull .disseminator)
+
 -- C is looked at next, or own
 abbrev beforeC : Node ℕ
 beforeC = node (among (B ∷ C ∷ own ∷ []) 1) [] []
@@ -138,7 +147,7 @@ beforeOwn = node (among (B ∷ C ∷ own ∷ []) 2) [] []
 abbrev pub inputs : List (Node ℕ)
 inputs =
     alone ∷ emptied ∷ buried ∷ buriedTwice ∷ threeTold ∷ manyTold ∷ heapFull ∷ deathsFull ∷ listFull ∷ fullAfterADeath last-number
-    ∷ timersFull ∷ beforeC ∷ beforeOwn
+    ∷ timersFull ∷ beforeC ∷ beforeOwn ∷ timed alone ∷ timed (withB state.Pending 4) ∷ timed (withB-full state.Alive)
     ∷ withB state.Alive 0 ∷ withB state.Alive 4 ∷ withB state.Pending 4 ∷ withB state.Pending 5 ∷ withB state.Suspected 4 ∷ []
 
 -- two that are not sound: the position is the length, and the order has one address twice
@@ -236,6 +245,10 @@ wrongs =
     seen (λ p st. ofDetector (p B (SendingPingReq B 4) 20) (withB st 4)) at state.Pending yet-at state.Suspected)
     ∷ (wrong.suspectedAtTheHeldNumber is-not sendPingReq ipv4 seen (λ p n. ofDetector (p B n 20) (withB state.Pending 5)) at 4 yet-at 5)
     ∷ (wrong.staysInDeclaring is-not declare ipv4 seen (λ p s. ofDetector (p B 4 20) s) at alone yet-at timersFull)
+    -- an ended timer
+    ∷ (wrong.pendingSpared is-not endAt ipv4 seen (λ p st. ofRule (p 0) (timed (withB st 4)) []) at state.Pending yet-at state.Suspected)
+    ∷ (wrong.goneIsTold is-not endAt ipv4 seen (λ p s. ofRule (p 0) (timed s) []) at alone yet-at withB state.Suspected 4)
+    ∷ (wrong.fullAnyway is-not endAt ipv4 seen (λ p st. ofRule (p 0) (timed (withB-full st)) []) at state.Alive yet-at state.Suspected)
     -- what demand 3 shuts out
     ∷ (wrong.enteredTwice is-not added eqb seen (λ p d. look.ofMembers (p C 0 d (withB state.Alive 0 .members))) at 0 yet-at 1)
     ∷ (wrong.writesBack is-not suspect ipv4 seen (λ p n. ofRule (p B n) (withB state.Pending 5) []) at 4 yet-at 5)
@@ -257,7 +270,7 @@ all-told (w ∷ ws) e = let p = and-split (told w) (allTold ws) e in both w (p .
         (told-apart (run program far) (run rule far) (p .0), told-equal (run program near) (run rule near) (p .1))
 
 pub differ : All wrongs
-unfolding when swap leastFrom leastPower limitOf varintFrom varintLength numberSize sizeOver sizeOf digits textLength partsOf sameGossip climbIn climb lower downIn down push sinkTop removeTop allBelow termsOf wasNoted takeTop tryHeap tryAlive tryDeceased over rounds choose orElse death shuffle advance added add remove update seek pickFrom stored loaded quiet andMore pushed emit change leave spread joinedAt joined recovered believed suspectedOther suspected deceased judgeSender listAfter newsOf act item causeAt stopsAt admit answerTo handle isOver due pinged sendPing heard waited suspect asked pickGroup sendPingReq declare inRange positioned validGossip soundEntry soundHeap soundMembers soundTimers sound validAction validState addPeer message detect endTimer
+unfolding when swap leastFrom leastPower limitOf varintFrom varintLength numberSize sizeOver sizeOf digits textLength partsOf sameGossip climbIn climb lower downIn down push sinkTop removeTop allBelow termsOf wasNoted takeTop tryHeap tryAlive tryDeceased over rounds choose orElse death shuffle advance added add remove update seek pickFrom stored loaded quiet andMore pushed emit change leave spread joinedAt joined recovered believed suspectedOther suspected deceased judgeSender listAfter newsOf act item causeAt stopsAt admit answerTo handle isOver due pinged sendPing heard waited suspect asked pickGroup sendPingReq declare fateOf byFate endAt inRange positioned validGossip soundEntry soundHeap soundMembers soundTimers sound validAction validState addPeer message detect endTimer
 differ = all-told wrongs refl
 
 -- and each contract admits these inputs, since each node is sound

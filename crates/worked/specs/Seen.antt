@@ -15,7 +15,7 @@ use Rattle.model.specs.declared.State.the-variants as state
 use Rattle.model.specs.declared.Reply.{Reply}
 use Rattle.model.specs.declared.Cause.{Cause}
 use Rattle.model.specs.declared.Cause.the-variants.{Record, Sender}
-use Rattle.model.specs.declared.Reply.the-variants.{Done, Already, NotDue, Refused, RefusedAt}
+use Rattle.model.specs.declared.Reply.the-variants.{Done, Already, NotDue, Refuted, Gone, Refused, RefusedAt}
 use Rattle.model.specs.Rows.{one}
 use Rattle.laws.specs.Bools.{and-split}
 use Rattle.model.specs.Answers.{Answer, done, refused, numberOf}
@@ -145,6 +145,8 @@ abbrev pub ofReply : Reply → List ℕ
 ofReply (Done used) = 0 ∷ used ∷ []
 ofReply Already = 100 ∷ []
 ofReply NotDue = 101 ∷ []
+ofReply Refuted = 102 ∷ []
+ofReply Gone = 103 ∷ []
 ofReply (Refused r) = numberOf r ∷ []
 ofReply (RefusedAt r at) = numberOf r ∷ ofCause at
 

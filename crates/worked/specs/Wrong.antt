@@ -13,7 +13,7 @@ use Rattle.model.specs.declared.State.{State}
 use Rattle.model.specs.declared.State.the-variants as state
 use Rattle.model.specs.declared.Cause.{Cause}
 use Rattle.model.specs.declared.Cause.the-variants.{Record, Sender}
-use Rattle.model.specs.declared.Refusal.the-variants.{Unsound, ShortRow, ManyRecords, AddressRange, NumberEnd, ListFull, AliveFull, TimersFull}
+use Rattle.model.specs.declared.Refusal.the-variants.{Unsound, ShortRow, ManyRecords, AddressRange, NumberEnd, ListFull, AliveFull, TimersFull, DeceasedFull}
 use Rattle.model.specs.declared.Reply.the-variants.{NotDue}
 use Rattle.model.specs.Rows.{pick, every, has, swap}
 use Rattle.model.specs.Bounds.{list-places, heap-places, timer-places, message-records, most-sends, Room, message-room, timer-room}
@@ -25,7 +25,7 @@ use Rattle.model.specs.Choose.{Terms, Choice, choose, deathIn}
 use Rattle.model.specs.Members as list
 use Rattle.model.specs.Node.{Node, Out, Effect, Stored, loaded, withMembers, withTimers, quiet, andMore, plusOne, deathPlusOne, emit, lists, numbered, stateOf, heldDeath, change, leave}
 use Rattle.model.specs.Handler.{Enter, joinedAt, suspectedOther, act, item, gossip, through, stopsAt, admit, ackTarget, answerTo, handle}
-use Rattle.model.specs.Detector.{Stepped, due, step, enters, moves, pinged, pickGroup, suspect, asked, firstOver}
+use Rattle.model.specs.Detector.{Stepped, due, step, enters, moves, pinged, pickGroup, suspect, asked, firstOver, timerAt, freed, endAt}
 use Rattle.model.specs.Sound.{ofKind, distinct, positioned, permutes, validGossip, soundEntry, isNoMember, sound}
 use Rattle.model.specs.Calls.{Outcome, StepOutcome, firstOf, short, unchanged, refuses, orAlready, whenDue, written, validAction, kept, keptMessage, joins, keptStep, stepTests, endsAt}
 use Rattle.worked.specs.Seen.{stateNumber}
@@ -416,6 +416,22 @@ staysInDeclaring a n now s ds =
     when (leb timer-places (length (s .timers)))
     (refused TimersFull)
     (done (moves ipv4 (Declaring a n) now (withTimers s (s .timers ++ (record { addr = a; number = n; since = now } ∷ [])))) ds)
+
+-- An ended timer.
+
+-- a Pending peer is spared
+abbrev pub pendingSpared : ℕ → Node ℕ → List ℕ → Answer (Out ℕ)
+pendingSpared i s ds = when (eqb (stateNumber (stateOf ipv4 (timerAt ipv4 i s .addr) s)) (stateNumber state.Pending)) (quiet (freed ipv4 i s) ds) (endAt ipv4 i s ds)
+
+-- Deceased is emitted though the address is gone already
+abbrev pub goneIsTold : ℕ → Node ℕ → List ℕ → Answer (Out ℕ)
+goneIsTold i s ds =
+    let t = timerAt ipv4 i s in
+    when (lists ipv4 (t .addr) s) (endAt ipv4 i s ds) (emit ipv4 kind.Deceased (record { event = Deceased (s .own) (t .addr) (t .number) }) (freed ipv4 i s) ds)
+
+-- 13 is given though nothing would be removed
+abbrev pub fullAnyway : ℕ → Node ℕ → List ℕ → Answer (Out ℕ)
+fullAnyway i s ds = when (leb heap-places (length (s .disseminator .deceased))) (refused DeceasedFull) (endAt ipv4 i s ds)
 
 -- What demand 3 shuts out.
 

@@ -2,7 +2,6 @@
 use std::io::{self, BufRead};
 
 use super::coverage::{Coverage, Seen};
-use super::domain::Outside;
 use super::host::{Host, Outcome};
 use super::lines::Lines;
 use super::script::{self, Call, Line};
@@ -50,7 +49,7 @@ fn observe(coverage: &mut Coverage, host: &mut Host, call: &Call) -> bool {
     let answer = match host.call(call) {
         Outcome::Inside(answer) => answer,
         Outcome::Outside { why, .. } => {
-            coverage.lowered(why == Outside::Lowered);
+            coverage.left(why);
             return false;
         }
     };

@@ -2,6 +2,7 @@
 use std::collections::BTreeMap;
 use std::io::{self, Write};
 
+use super::domain::Outside;
 use super::host::{Answer, State, Verdict};
 use super::script::{Call, Settings};
 use super::words::{Address, Kind, Member, MemberState, Packet, PacketKind, Phase, Record};
@@ -55,9 +56,20 @@ impl Coverage {
         self.count("outside: call", true);
     }
 
-    /// A call that lowers a number, the first of its node or a later one.
-    pub fn lowered(&mut self, first: bool) {
-        self.count("outside: node whose ping request lowered a number", first);
+    /// A call that is the first of its node outside the domain, and why.
+    pub fn left(&mut self, why: Outside) {
+        self.count(
+            "outside: node whose ping request lowered a number",
+            why == Outside::Lowered,
+        );
+        self.count(
+            "outside: node whose timer was refuted",
+            why == Outside::Refuted,
+        );
+        self.count(
+            "outside: node whose timer found its peer gone",
+            why == Outside::Gone,
+        );
     }
 
     pub fn line_wait(&mut self) {
@@ -227,9 +239,11 @@ impl Coverage {
         self.count("timer ended", !not_due);
         for event in &seen.answer.events {
             let held = member(seen.before, event.subject);
-            let alive = held.is_some_and(|member| member.state == MemberState::Alive);
-            self.count("timer ended, peer not listed", held.is_none());
-            self.count("timer ended, peer Alive", alive);
+            let pending = held.is_some_and(|member| member.state == MemberState::Pending);
+            let lower = held.is_some_and(|member| member.number < event.number);
+            self.count("timer ended, peer Pending", pending);
+            self.count("timer ended, peer Suspected", !pending);
+            self.count("timer ended, peer at a lower number", lower);
         }
         let first_gone = seen.before.timers.first() != seen.after.timers.first();
         self.count(

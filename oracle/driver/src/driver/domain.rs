@@ -1,10 +1,12 @@
-//! The edge of the domain in which the published code is the judge: no refusal is met, the list is never emptied and no
-//! number is lowered.
+//! The edge of the domain in which the published code is the judge: no refusal is met, the list is never emptied, no
+//! number is lowered, and no timer ends for an address that is to stay or is gone.
 //! Past it the answers are the port's own, so the oracle says only that the edge was passed.
 use rand::Lent;
 
 use super::script::{Call, Creation, Rows, Settings};
-use super::words::{Address, Gossips, Kind, Member, Packet, Record, Wait, ADDRESS_LIMIT};
+use super::words::{
+    Address, Gossips, Kind, Member, MemberState, Packet, Peer, Record, Wait, ADDRESS_LIMIT,
+};
 
 pub const MOST_LISTED: usize = 64;
 pub const MOST_HELD: usize = 128;
@@ -20,6 +22,10 @@ pub enum Outside {
     Emptied,
     /// A listed peer's number was lowered.
     Lowered,
+    /// A timer ended for an address that is Alive or has a greater number than the timer.
+    Refuted,
+    /// A timer ended for an address that is not listed.
+    Gone,
 }
 
 /// What the published code did in one call.
@@ -136,4 +142,15 @@ pub fn lowers(before: &[Member], after: &[Member]) -> bool {
         now.is_some_and(|member| member.number < held.number)
     };
     before.iter().any(falls)
+}
+
+/// Why a timer that ends removes nobody, if so. The published code removes its address and reports the death whatever the
+/// list says.
+pub fn spares(members: &[Member], peer: Peer) -> Option<Outside> {
+    match members.iter().find(|held| held.address == peer.address) {
+        None => Some(Outside::Gone),
+        Some(held) if held.state == MemberState::Alive => Some(Outside::Refuted),
+        Some(held) if held.number > peer.number => Some(Outside::Refuted),
+        Some(_) => None,
+    }
 }

@@ -35,6 +35,19 @@ pub enum Outcome {
     },
 }
 
+impl Outcome {
+    /// What ran inside the domain is outside of it nevertheless, if there is a reason.
+    fn past(self, why: Option<Outside>) -> Self {
+        match (self, why) {
+            (Self::Inside(answer), Some(why)) => {
+                let ran = Some(answer);
+                Self::Outside { why, ran }
+            }
+            (outcome, _) => outcome,
+        }
+    }
+}
+
 /// The whole state after a call.
 #[derive(Clone, Debug, PartialEq, Eq)]
 pub struct State {
@@ -134,14 +147,8 @@ impl Host {
             expect_slept(wait);
             Ran::Ok
         });
-        match outcome {
-            Outcome::Inside(answer) if domain::lowers(&members, &self.bench.members().1) => {
-                let why = Outside::Lowered;
-                let ran = Some(answer);
-                Outcome::Outside { why, ran }
-            }
-            outcome => outcome,
-        }
+        let lowers = domain::lowers(&members, &self.bench.members().1);
+        outcome.past(lowers.then_some(Outside::Lowered))
     }
 
     fn timer(&mut self, now: u32) -> Outcome {
@@ -150,12 +157,14 @@ impl Host {
         let Some(place) = self.timers.iter().position(over) else {
             return not_due();
         };
-        let (_, parked) = self.timers.remove(place);
-        self.run(&[], |host| {
+        let (timer, parked) = self.timers.remove(place);
+        let (_, members) = self.bench.members();
+        let outcome = self.run(&[], |host| {
             host.bench.end(parked);
             expect_slept(Some(wait));
             Ran::Ok
-        })
+        });
+        outcome.past(domain::spares(&members, timer.peer))
     }
 
     /// The wait before the detector's next step; none before a step taken at once.
@@ -212,7 +221,7 @@ enum Ran {
 }
 
 /// A wait is over when now less start, modulo 2^32, is at least the wait.
-fn is_over(start: u32, now: u32, wait: u32) -> bool {
+pub fn is_over(start: u32, now: u32, wait: u32) -> bool {
     now.wrapping_sub(start) >= wait
 }
 

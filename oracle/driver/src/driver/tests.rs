@@ -105,7 +105,8 @@ fn ticks_come_round() {
 
 #[test]
 fn the_first_timer_that_is_over_ends() {
-    let two = "add 2 0 | 1\nwait dead 8 1 0\nstep 5 |\nwait dead 2 0 0\nstep 0 |\n";
+    let suspects = "add 2 0 | 1\nadd 8 1 | 1\nack 9 - s:9:2:0 s:9:8:1 |\n";
+    let two = &format!("{suspects}wait dead 8 1 0\nstep 5 |\nwait dead 2 0 0\nstep 0 |\n");
     assert_eq!(last_state(two, 't'), "t 8:1:5 2:0:0");
     assert_eq!(
         last_answer(&format!("{two}timer 12")),
@@ -149,6 +150,23 @@ fn a_lowered_number_is_outside() {
     // at the held number, above it, and of a peer that is not listed
     for wait in ["2 5", "2 6", "9 0"] {
         assert!(!is_outside(&suspected(wait)), "{wait}");
+    }
+}
+
+#[test]
+fn a_timer_that_removes_nobody_is_outside() {
+    let ended =
+        |before: &str, wait: &str| format!("{before}wait dead {wait} 10\nstep 10 |\ntimer 20");
+    // Alive, Pending at a greater number, not listed, and the own address
+    assert!(is_outside(&ended("add 2 5 | 0\n", "2 5")));
+    assert!(is_outside(&ended("add 2 5 | 0\nstep 10 |\n", "2 4")));
+    assert!(is_outside(&ended("", "2 5")));
+    assert!(is_outside(&ended("add 2 5 | 0\n", "1 0")));
+    // Pending or Suspected, at an equal number or a lower one
+    for wait in ["2 5", "2 6"] {
+        for before in ["step 10 |\n", "ack 3 - s:3:2:5 |\n"] {
+            assert!(!is_outside(&ended(&format!("add 2 5 | 0\n{before}"), wait)));
+        }
     }
 }
 

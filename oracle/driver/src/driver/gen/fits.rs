@@ -1,12 +1,18 @@
-//! Whether a call surely stays inside the domain, or leaves it by a lowered number where that is asked for. It errs on the
-//! safe side: a call it turns down might have stayed inside.
+//! Whether a call surely stays inside the domain, or leaves it by a lowered number or a timer that removes nobody where that
+//! is asked for. It errs on the safe side: a call it turns down might have stayed inside.
 use crate::driver::coverage::{is_listed, member};
-use crate::driver::domain::{MOST_HELD, MOST_LISTED, MOST_TIMERS};
-use crate::driver::host::State;
-use crate::driver::script::Call;
-use crate::driver::words::{Address, Kind, Packet, PacketKind, Peer, Phase, Record};
+use crate::driver::domain::{spares, MOST_HELD, MOST_LISTED, MOST_TIMERS};
+use crate::driver::host::{is_over, State};
+use crate::driver::script::{Call, Settings};
+use crate::driver::words::{Address, Kind, Packet, PacketKind, Peer, Phase, Record, Timer};
 
-pub fn fits(call: &Call, state: &State, own: Address, may_lower: bool) -> bool {
+pub fn fits(
+    call: &Call,
+    state: &State,
+    settings: &Settings,
+    own: Address,
+    may_leave: bool,
+) -> bool {
     match call {
         Call::Add { peer, .. } => {
             is_listed(state, peer.address) || state.members.len() < MOST_LISTED
@@ -14,21 +20,24 @@ pub fn fits(call: &Call, state: &State, own: Address, may_lower: bool) -> bool {
         Call::Message { packet, .. } => message_fits(packet, state, own),
         Call::Step { .. } => match state.wait.phase {
             Phase::SendingPingReq(peer) => {
-                state.alive.len() < MOST_HELD && (may_lower || !lowers(state, peer))
+                state.alive.len() < MOST_HELD && (may_leave || !lowers(state, peer))
             }
             Phase::Declaring(_) => state.timers.len() < MOST_TIMERS,
             _ => true,
         },
-        // Any timer may end: none may be the last member's.
-        Call::Timer { .. } => {
-            let last_member = |address| state.members.len() == 1 && is_listed(state, address);
-            let empties = state
-                .timers
-                .iter()
-                .any(|timer| last_member(timer.peer.address));
-            state.deceased.len() < MOST_HELD && !empties
+        Call::Timer { now } => {
+            let over = |timer: &&Timer| is_over(timer.tick, *now, settings.suspect_timeout);
+            let ends = state.timers.iter().find(over);
+            ends.map_or(true, |timer| timer_fits(timer.peer, state, may_leave))
         }
     }
+}
+
+/// A timer may not end for the last member, and it must remove.
+fn timer_fits(peer: Peer, state: &State, may_leave: bool) -> bool {
+    let empties = state.members.len() == 1 && is_listed(state, peer.address);
+    let removes = spares(&state.members, peer).is_none();
+    state.deceased.len() < MOST_HELD && !empties && (may_leave || removes)
 }
 
 /// Whether a ping request writes a number below the held one.

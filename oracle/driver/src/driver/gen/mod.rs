@@ -1,5 +1,5 @@
 //! The verb `gen`: random scripts that stay inside the domain, but for some nodes' last calls, which leave it where the
-//! published code lowers a number. The published code runs alongside, so that each call can be fitted to the state it
+//! published code lowers a number or ends a timer that removes nobody. The published code runs alongside, so that each call can be fitted to the state it
 //! meets; the same seed gives the same script.
 mod fits;
 mod propose;
@@ -21,7 +21,7 @@ const PLENTY: usize = 256;
 /// How often proposals in one mood may be turned down.
 const TRIES: usize = 10;
 
-/// One call in so many, the last ones of a node, may lower a number.
+/// One call in so many, the last ones of a node, may leave the domain.
 const LATE: u64 = 12;
 
 /// Writes a script of `nodes` nodes and `calls` calls in all, and returns what it reaches.
@@ -43,9 +43,9 @@ struct NodeRun {
     world: World,
     host: Host,
     state: State,
-    /// A number may be lowered from now on.
+    /// The domain may be left from now on.
     is_late: bool,
-    /// A number was lowered: this call and those after it are outside the domain.
+    /// It was left: this call and those after it are outside.
     is_outside: bool,
 }
 
@@ -141,10 +141,12 @@ impl NodeRun {
         let answer = match self.host.call(&call) {
             Outcome::Inside(answer) => answer,
             Outcome::Outside {
-                why: Outside::Lowered,
+                why: why @ (Outside::Lowered | Outside::Refuted | Outside::Gone),
                 ran: Some(answer),
             } => {
-                coverage.lowered(!self.is_outside);
+                if !self.is_outside {
+                    coverage.left(why);
+                }
                 self.is_outside = true;
                 answer
             }
@@ -175,12 +177,17 @@ impl NodeRun {
         for mood in [mood, Mood::Chat] {
             for _ in 0..TRIES {
                 let call = self.proposer().call(mood);
-                if fits::fits(&call, &self.state, self.world.own(), self.is_late) {
+                if self.fits(&call) {
                     return call;
                 }
             }
         }
         self.proposer().harmless()
+    }
+
+    fn fits(&self, call: &Call) -> bool {
+        let settings = &self.world.creation.settings;
+        fits::fits(call, &self.state, settings, self.world.own(), self.is_late)
     }
 
     fn draws(&mut self) -> Vec<u64> {

@@ -1,11 +1,13 @@
 //! Proposes the next call, by the mood the run is in. What does not fit is turned down elsewhere.
 use super::world::World;
 use crate::driver::coverage::{is_listed, member};
-use crate::driver::domain::{MOST_GOSSIP, MOST_HELD, MOST_LISTED, MOST_TIMERS};
+use crate::driver::domain::{spares, Outside, MOST_GOSSIP, MOST_HELD, MOST_LISTED, MOST_TIMERS};
 use crate::driver::host::State;
 use crate::driver::rng::Rng;
 use crate::driver::script::Call;
-use crate::driver::words::{Address, Gossips, Kind, Packet, PacketKind, Peer, Phase, Record, Wait};
+use crate::driver::words::{
+    Address, Gossips, Kind, Packet, PacketKind, Peer, Phase, Record, Timer, Wait,
+};
 
 /// What a stretch of calls is bent on.
 #[derive(Clone, Copy)]
@@ -62,9 +64,10 @@ impl Proposer<'_> {
             Mood::Silence if self.state.timers.len() == MOST_TIMERS => self.timer(),
             // A list kept long is one whose order is gone round, and shuffled, at full length.
             Mood::Silence if self.list_can_be_filled() && self.rng.chance(40) => self.addition(),
+            Mood::Silence if self.reaps() => self.reaping(),
             Mood::Silence => self.due_step(),
             Mood::Reap if self.state.timers.is_empty() => self.due_step(),
-            Mood::Reap => self.timer(),
+            Mood::Reap => self.reaping(),
             Mood::Overtake => self.overtaking(),
             Mood::Chat => self.anything(),
         }
@@ -325,6 +328,28 @@ impl Proposer<'_> {
             }
         };
         Call::Timer { now }
+    }
+
+    /// Whether a timer is to end between two steps.
+    fn reaps(&mut self) -> bool {
+        !self.state.timers.is_empty() && self.rng.chance(20)
+    }
+
+    /// A timer's end, or a suspicion of a peer whose timer would not remove it, so that it does. An end at the tick at which
+    /// a timer started leaves that one running, and ends one that started later.
+    fn reaping(&mut self) -> Call {
+        let timers: Vec<Timer> = self.state.timers.clone();
+        let timer = *self.rng.pick(&timers);
+        let held = self.held_number(timer.peer.address);
+        let spared = spares(&self.state.members, timer.peer) == Some(Outside::Refuted);
+        match self.rng.below(3) {
+            0 => Call::Timer { now: timer.tick },
+            1 if spared && held <= timer.peer.number => {
+                let record = self.record(Kind::Suspected, timer.peer.address, held);
+                self.any_message(vec![Some(record)])
+            }
+            _ => self.timer(),
+        }
     }
 
     fn phase_wait(&self) -> u32 {

@@ -1,0 +1,63 @@
+-- `timer_call::remove_at` meets its contract: the timer goes, its address leaves, Deceased is emitted.
+-- Assumes nothing.
+use mathlib.Core.Path.{ap, _∙_}
+use mathlib.Core.List.{[], _∷_}
+use native.Mathlib.Omega.{arith}
+use borrow.Author.Needs.{needs}
+use Rattle.types.specs.Views.{toGossip}
+use Rattle.disseminate.specs.declared.Grown.{Grown}
+use Rattle.disseminate.proofs.Pushing.{deceased-pushed}
+use Rattle.timer_call.specs.declared.Ended.{Ended}
+use Rattle.timer_call.proofs.TimerEnds.{Death, end-full, end-kept}
+use Rattle.timer_call.proofs.remove_at.Statement.{statement}
+use Rattle.timer_call.proofs.remove_at.Tie as tie
+
+-- what the code has when it has pushed
+abbrev death : tie.After-grow → Death
+death p =
+    let d = p .before in
+    let w = d .before in
+    let t = w .before .before in
+    let s = t .before .before .before .before in
+    record {
+      node = s .args .node;
+      ready = s .pre .0;
+      place = s .args .place;
+      within = s .pre .1;
+      there = s .pre .2;
+      timers = t .end .result;
+      timers-is = t .end .ensures;
+      members = w .remove-member .result;
+      members-is = w .remove-member .ensures;
+      gossip = record { event = d .new-node-deceased .result };
+      named = d .new-node-deceased .ensures;
+      pushed = record { disseminator = record { alive = s .args .node .disseminator .alive; deceased = p .grow .result .heap }; full = p .grow .result .full };
+      pushed-is = ap (λ (x : Grown). record { disseminator = record { alive = s .args .node .disseminator .alive; deceased = x .heap }; full = x .full }) (p .grow .ensures)
+          ∙ deceased-pushed (s .args .node .disseminator) (s .pre .0 .heaps) (toGossip (record { event = d .new-node-deceased .result }));
+    }
+
+returns : tie.Need-returns
+returns c = (c .plain .ensures ∙ end-full (death (c .before .before)) (c .before .if1 .taken), omega (arith, ap (λ (x : Ended). x .reported) (c .plain .ensures)))
+
+returns-2 : tie.Need-returns-2
+returns-2 c =
+    let o = c .before .before .before .before in
+    let q = death (o .before) in (
+      (λ i. record { answer = c .plain2 .ensures i; events = q .gossip ∷ []; reported = 1 }) ∙ end-kept q (o .if1 .left),
+      omega arith,
+    )
+
+pub remove-at-spec : {M : Type 1} → statement M
+remove-at-spec =
+    tie.close
+    (tie.spec
+    (λ c. search needs)
+    (λ c. search needs)
+    (λ c κs. search needs)
+    (λ c κs. search needs)
+    (λ c κs. search needs)
+    (λ c κs. search needs)
+    (λ c κs. search needs)
+    returns
+    (λ c κs. search needs)
+    returns-2)
