@@ -1,7 +1,7 @@
 -- DEMAND 3. Of every history from a fresh node (any accepted settings, own address and number, a fresh wait record at any tick, and whichever the host lends later) and of
 -- every address, of any type of address: who is listed, and in which order. The replay starts at creation's inputs.
 -- Assumes nothing.
-use mathlib.Core.Path.{_≡_, ap, _∙_}
+use mathlib.Core.Path.{_≡_, ap, sym, _∙_}
 use mathlib.Core.Bool.{true, false}
 use mathlib.Core.List.{List}
 use Prim.Native.Nat.{ℕ, _+_, _≤_}
@@ -11,6 +11,7 @@ use Rattle.model.specs.declared.Settings.{Settings}
 use Rattle.model.specs.Rows.{one, occurs}
 use Rattle.model.specs.Words.{Address, Lawful}
 use Rattle.model.specs.Members.{addrs}
+use Rattle.model.specs.Lamps.{lampsOf}
 use Rattle.model.specs.Node.{Node, Stored, loaded, stored, fresh, lists, numbered}
 use Rattle.model.specs.Sound.{inRange, sound}
 use Rattle.laws.specs.Counts.{has-is}
@@ -72,6 +73,16 @@ module _ {A : Type 0} (address : Address A) (lawful : Lawful address) (settings 
   -- no number reported for a listed peer since its last entry is above the held one
   pub reported-held : lists address a (loaded (last .node)) ≡ true → address .same own a ≡ false → ledger .top ≤ numbered address a (loaded (last .node))
   reported-held = reads {P = λ s. lists address a s ≡ true → address .same own a ≡ false → ledger .top ≤ numbered address a s} (λ s g k. k .low) stood
+
+  -- "the three counts .. own address left out, true after every operation"
+  pub lit : last .node .lamps ≡ lampsOf (address .same) own (loaded (last .node) .members .table)
+  unfolding stored
+  lit = true-of stood
+    where
+      true-of : {t : Tally} {w : World A} → Stands address lawful a own t w → w .node .lamps ≡ lampsOf (address .same) own (loaded (w .node) .members .table)
+      true-of (stands s w g k) =
+          (λ i. lampsOf (address .same) (k .mine i) (s .members .table))
+          ∙ ap (λ (x : Node A). lampsOf (address .same) own (x .members .table)) (sym (loaded-stored address lawful s (g .whole)))
 
   -- every node of a history is sound, so refusal 2 never meets one
   pub stays-sound : sound address (last .node) ≡ true

@@ -7,3 +7,4 @@ pub mod Draws
 pub mod Aside
 pub mod Picking
 pub mod Updates
+pub mod Counting

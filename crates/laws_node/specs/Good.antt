@@ -11,14 +11,17 @@ use lib.Dec.{eqb·suc-zero}
 use borrow.Author.Tests.{eqb-true, eq-eqb, ltb-true, lt-ltb, leb-true, le-leb}
 use Rattle.model.specs.declared.State.{State}
 use Rattle.model.specs.declared.State.the-variants as state
+use Rattle.model.specs.declared.Lamps.{Lamps}
 use Rattle.model.specs.Rows.{every, padTo}
 use Rattle.model.specs.Words.{Address, Lawful, isAlive, Member, Timer, unused, noMember, noTimer}
 use Rattle.model.specs.Members.{Members, addrs}
+use Rattle.model.specs.Lamps.{lampsOf, sameLamps}
 use Rattle.model.specs.Node.{heapOf, Node, Row, Stored, inUse, rowOf, loaded, stored}
 use Rattle.model.specs.declared.Kind.{Kind}
 use Rattle.model.specs.declared.Kind.the-variants as kind
-use Rattle.model.specs.Sound.{inRange, positioned, soundHeap, isNoMember, soundMembers, isNoTimer, soundTimers, sound}
+use Rattle.model.specs.Sound.{inRange, positioned, soundHeap, isNoMember, soundRows, soundMembers, isNoTimer, soundTimers, sound}
 use Rattle.laws_list.specs.Whole.{Whole}
+use Rattle.laws_list.specs.Counting.{lamps-eq, lamps-same}
 use Rattle.laws_list.specs.Distinct.{distinct-once, once-distinct, permutes-counts, counts-permutes}
 use Rattle.laws.specs.Bools.{and-split, and-join, every-replicate}
 use Rattle.laws.specs.Pad.{take-pad, drop-pad, pad-take}
@@ -87,15 +90,18 @@ module _ {A : Type 0} (address : Address A) (lawful : Lawful address) where
       rw (take-pad 16 (noTimer address) l, drop-pad 16 (noTimer address) l)
       (and-join (and-join (le-leb (length l) 16 h) e) (every-replicate (isNoTimer address) (16 - length l) (noTimer address) (and-join (and-join blank-same refl) refl)))
 
-  sound-members : (m : Members A) → Whole (address .same) m → every (address .valid) (addrs (m .table)) ≡ true
-      → soundMembers address (padTo 64 (noMember address) (m .table)) (padTo 64 (address .blank) (m .order)) (length (m .table)) (m .position) ≡ true
-  unfolding soundMembers
-  sound-members m w v =
+  sound-members : (own : A) (m : Members A) → Whole (address .same) m → every (address .valid) (addrs (m .table)) ≡ true
+      → soundMembers address own (padTo 64 (noMember address) (m .table)) (padTo 64 (address .blank) (m .order)) (length (m .table)) (m .position)
+      (lampsOf (address .same) own (m .table))
+      ≡ true
+  unfolding soundMembers soundRows
+  sound-members own m w v =
       let to : take (length (m .table)) (padTo 64 (address .blank) (m .order)) ≡ m .order =
       ap (λ (n : ℕ). take n (padTo 64 (address .blank) (m .order))) (sym (w .long)) ∙ take-pad 64 (address .blank) (m .order) in
       let dro : drop (length (m .table)) (padTo 64 (address .blank) (m .order)) ≡ replicate (64 - length (m .order)) (address .blank) =
       ap (λ (n : ℕ). drop n (padTo 64 (address .blank) (m .order))) (sym (w .long)) ∙ drop-pad 64 (address .blank) (m .order) in
       rw (take-pad 64 (noMember address) (m .table), drop-pad 64 (noMember address) (m .table), to, dro)
+      (and-join
       (and-join
       (and-join
       (and-join
@@ -107,6 +113,7 @@ module _ {A : Type 0} (address : Address A) (lawful : Lawful address) where
       v)
       (every-replicate (isNoMember address) (64 - length (m .table)) (noMember address) (and-join (and-join blank-same refl) refl)))
       (every-replicate (λ (a : A). address .same a (address .blank)) (64 - length (m .order)) (address .blank) blank-same))
+      (lamps-same (lampsOf (address .same) own (m .table))))
 
   pub good-sound : (s : Node A) → Good address s → sound address (stored address s) ≡ true
   unfolding sound stored
@@ -116,7 +123,7 @@ module _ {A : Type 0} (address : Address A) (lawful : Lawful address) where
       (and-join
       (and-join
       (and-join (g .settings) (g .own))
-      (sound-members (s .members) (g .whole) (g .valid)))
+      (sound-members (s .own) (s .members) (g .whole) (g .valid)))
       (sound-heap address kind.Alive (s .disseminator .alive) (g .heaps kind.Alive)))
       (sound-heap address kind.Deceased (s .disseminator .deceased) (g .heaps kind.Deceased)))
       (sound-timers (s .timers) (g .few) (g .timers))
@@ -150,18 +157,28 @@ module _ {A : Type 0} (address : Address A) (lawful : Lawful address) where
       let l : length (inUse r) ≡ r .used = length-take-le (r .used) (r .places) (omega arith) in
       (omega arith, t .1, l, pad-take (isNoTimer address) (noTimer address) no-timer 16 (r .used) (r .places) e few (q .1))
 
-  pub record GoodRows (ms : List (Member A)) (os : List A) (n position : ℕ) : Type 0 where
+  pub record GoodRows (own : A) (ms : List (Member A)) (os : List A) (n position : ℕ) (ls : Lamps) : Type 0 where
     pub whole : Whole (address .same) (record { table = take n ms; order = take n os; position = position })
     pub valid : every (address .valid) (addrs (take n ms)) ≡ true
     pub long : length (take n ms) ≡ n
     pub table : ms ≡ padTo 64 (noMember address) (take n ms)
     pub order : os ≡ padTo 64 (address .blank) (take n os)
+    pub lamps : ls ≡ lampsOf (address .same) own (take n ms)
 
-  pub members-good : (table : List (Member A)) (order : List A) (n position : ℕ) → length table ≡ 64 → length order ≡ 64
-      → soundMembers address table order n position ≡ true → GoodRows table order n position
+  -- the counts are those of the list
+  lamps-clause : (own : A) (table : List (Member A)) (order : List A) (n position : ℕ) (lamps : Lamps) → soundMembers address own table order n position lamps ≡ true
+      → lamps ≡ lampsOf (address .same) own (take n table)
   unfolding soundMembers
-  members-good table order n position et eo p =
-      let p₁ = and-split _ _ p in
+  lamps-clause own table order n position lamps p =
+      let l = lampsOf (address .same) own (take n table) in
+      lamps-eq lamps l (and-split (soundRows address table order n position) (sameLamps lamps l) p .1)
+
+  pub members-good : (own : A) (table : List (Member A)) (order : List A) (n position : ℕ) (lamps : Lamps) → length table ≡ 64 → length order ≡ 64
+      → soundMembers address own table order n position lamps ≡ true → GoodRows own table order n position lamps
+  unfolding soundMembers soundRows
+  members-good own table order n position lamps et eo p =
+      let p₀ = and-split (soundRows address table order n position) (sameLamps lamps (lampsOf (address .same) own (take n table))) p in
+      let p₁ = and-split _ _ (p₀ .0) in
       let p₂ = and-split _ _ (p₁ .0) in
       let p₃ = and-split _ _ (p₂ .0) in
       let p₄ = and-split _ _ (p₃ .0) in
@@ -183,11 +200,12 @@ module _ {A : Type 0} (address : Address A) (lawful : Lawful address) where
         long = lt;
         table = pad-take (isNoMember address) (noMember address) no-member 64 n table et few (p₂ .1);
         order = pad-take (λ (a : A). address .same a (address .blank)) (address .blank) (λ y e. lawful .test .same-eq y (address .blank) e) 64 n order eo few (p₁ .1);
+        lamps = lamps-clause own table order n position lamps p;
       }
 
   -- the parts of a sound node
   parts-of : (s : Stored A) → sound address s ≡ true
-      → (inRange (s .settings) ≡ true) × (address .valid (s .own) ≡ true) × (soundMembers address (s .table) (s .order) (s .listed) (s .position) ≡ true)
+      → (inRange (s .settings) ≡ true) × (address .valid (s .own) ≡ true) × (soundMembers address (s .own) (s .table) (s .order) (s .listed) (s .position) (s .lamps) ≡ true)
       × (soundHeap address kind.Alive (s .alive) ≡ true) × (soundHeap address kind.Deceased (s .deceased) ≡ true) × (soundTimers address (s .timers) ≡ true)
   unfolding sound
   parts-of s p =
@@ -198,11 +216,16 @@ module _ {A : Type 0} (address : Address A) (lawful : Lawful address) where
       let p₅ = and-split _ _ (p₄ .0) in
       (p₅ .0, p₅ .1, p₄ .1, p₃ .1, p₂ .1, p₁ .1)
 
+  -- and so are those of a sound node, whatever its rows
+  pub sound-lamps : (s : Stored A) → sound address s ≡ true → s .lamps ≡ lampsOf (address .same) (s .own) (loaded s .members .table)
+  unfolding loaded
+  sound-lamps s p = lamps-clause (s .own) (s .table) (s .order) (s .listed) (s .position) (s .lamps) (parts-of s p .2)
+
   pub sound-good : (s : Stored A) → FullRows s → sound address s ≡ true → Good address (loaded s)
   unfolding loaded
   sound-good s f p =
       let q = parts-of s p in
-      let m = members-good (s .table) (s .order) (s .listed) (s .position) (f .table) (f .order) (q .2) in
+      let m = members-good (s .own) (s .table) (s .order) (s .listed) (s .position) (s .lamps) (f .table) (f .order) (q .2) in
       let t = timers-good (s .timers) (f .timers) (q .5) in
       record {
         settings = q .0;
@@ -223,7 +246,7 @@ module _ {A : Type 0} (address : Address A) (lawful : Lawful address) where
   unfolding loaded stored
   stored-loaded s f p =
       let q = parts-of s p in
-      let m = members-good (s .table) (s .order) (s .listed) (s .position) (f .table) (f .order) (q .2) in
+      let m = members-good (s .own) (s .table) (s .order) (s .listed) (s .position) (s .lamps) (f .table) (f .order) (q .2) in
       let t = timers-good (s .timers) (f .timers) (q .5) in
       let a = heap-good address kind.Alive (s .alive) (f .alive) (q .3) in
       let d = heap-good address kind.Deceased (s .deceased) (f .deceased) (q .4) in
@@ -234,6 +257,7 @@ module _ {A : Type 0} (address : Address A) (lawful : Lawful address) where
         order = sym (m .order) i;
         listed = m .long i;
         position = s .position;
+        lamps = sym (m .lamps) i;
         alive = record { places = sym (a .2) i; used = a .1 i };
         deceased = record { places = sym (d .2) i; used = d .1 i };
         timers = record { places = sym (t .3) i; used = t .2 i };

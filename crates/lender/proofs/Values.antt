@@ -26,7 +26,7 @@ use Rattle.node.proofs.Node.Laws as N′
 use Rattle.node.proofs.Answer as R
 use Rattle.node.proofs.Answer.Laws as R′
 use Rattle.swim.specs.declared.Outcome.{Outcome}
-use Rattle.lent.proofs.Writing.{nameOf, tysOf, field-part}
+use Rattle.lent.proofs.Writing.{nameOf, tysOf, fieldTy, field-part}
 use Rattle.swim.proofs.Outcome as O
 use Rattle.swim.proofs.Outcome.Laws as O′
 
@@ -61,5 +61,5 @@ module _ {M : Type 1} (𝓤 : URA M) (H : Heap 𝓤) (A : Atoms 𝓤) (W : Given
   pub in-reported : Part Go W (cell (oval r)) fullShare (tyInt w64) l 0 (vint w64 (r .reported)) (λ u. cell (vstruct (setV (fields r) 0 u)))
   in-reported = field-part 𝓤 H A W (nameOf O′.mir) (tysOf O′.mir) l (fields r) 0 (tyInt w64) 0 refl
 
-  pub in-answer : Part Go W (cell (oval r)) fullShare R′.mir l 8 (LL.val R.the-type R′.the-laws (r .answer)) (λ u. cell (vstruct (setV (fields r) 1 u)))
-  in-answer = field-part 𝓤 H A W (nameOf O′.mir) (tysOf O′.mir) l (fields r) 1 R′.mir 8 refl
+  pub in-answer : Part Go W (cell (oval r)) fullShare (fieldTy O′.mir 1) l 8 (LL.val R.the-type R′.the-laws (r .answer)) (λ u. cell (vstruct (setV (fields r) 1 u)))
+  in-answer = field-part 𝓤 H A W (nameOf O′.mir) (tysOf O′.mir) l (fields r) 1 (fieldTy O′.mir 1) 8 refl

@@ -11,22 +11,25 @@ use lib.Dec.{eqb, ltb}
 use borrow.Author.Tests.{le-leb, lt-leb, ltb-true, ltb-false, lt-ltb, le-ltb, eqb-true}
 use Rattle.model.specs.declared.State.the-variants.{Alive}
 use Rattle.model.specs.declared.Refusal.the-variants.{ListFull, DrawsShort}
+use Rattle.model.specs.declared.Lamps.{Lamps}
 use Rattle.model.specs.Rows.{one, pick, insertAt, removeAt, padTo, has, erase, occurs}
 use Rattle.laws.specs.Loops.{firstPlace, place-map}
 use Rattle.laws.specs.Pad.{length-removeAt}
 use Rattle.laws.specs.Padded.{pad-snoc, pad-set, removeAt-out}
 use Rattle.laws.specs.Counts.{has-le, has-none}
 use Rattle.model.specs.Answers.{done, refused, when}
-use Rattle.address.specs.Here.{Addr, here}
+use Rattle.address.specs.Here.{Addr, here, here-lawful}
 use Rattle.model.specs.Words as words
 use Rattle.model.specs.Members as list
+use Rattle.model.specs.Lamps.{more, less, lampsOf}
+use Rattle.laws_list.specs.Counting.{lightOf, lamps-snoc, lamps-cover, lamps-strike, lamps-put}
 use Rattle.laws_list.specs.Places.{placeOf, has-place, erase-place, strike-place, put-place, held-place, state-place}
 use Rattle.model.specs.declared.Drew.the-variants.{Used, Refused}
 use Rattle.member.specs.declared.Member.{Member}
 use Rattle.member.specs.declared.Members.{Members}
 use Rattle.member.specs.declared.Standing.{Standing}
 use Rattle.member.specs.declared.Kept.{Kept}
-use Rattle.member.specs.Views.{toMember, fromMember, nobody, viewMembers, packMembers, Packed, Held, standingOf, keptAs, addedOf}
+use Rattle.member.specs.Views.{toMember, fromMember, nobody, viewMembers, packWith, packMembers, Packed, Held, Counted, standingOf, keptAs, addedOf}
 use Rattle.member.specs.Packing.{table-used, order-used, view-many, pack-view}
 use Rattle.member.proofs.Tables.{record-at, removed-row, replaced-row, added-row}
 
@@ -45,6 +48,19 @@ place-is m a =
 
 addresses : (m : Members) → Packed m → length (list.addrs (held-table m)) ≡ m .len
 addresses m p = length-map (held-table m) (λ k. k .addr) ∙ view-many m p
+
+-- an address at a used place is listed, and counted
+module _ (m : Members) (p : Packed m) (a : Addr) (place : ℕ) (e : place ≡ place-in m a) (h : place < m .len) where
+  there : list.listed (here .same) a (held-table m) ≡ true
+  there = has-place (here .same) a (list.addrs (held-table m)) ∙ lt-ltb (place-in m a) (length (list.addrs (held-table m))) (omega (arith, addresses m p))
+
+  pub held-counted : (own : Addr) (k : Lamps) → Counted own m → k ≡ lightOf (here .same) own a (list.heldState (here .same) a (held-table m)) → (k .alive ≤ m .lamps .alive) × (k .pending ≤ m .lamps .pending) × (k .suspected ≤ m .lamps .suspected)
+  held-counted own k c q =
+      let v = lamps-cover (here .same) (here-lawful .test) own a (held-table m) there in (
+        omega (arith, v .alive, ap (λ (z : Lamps). z .alive) q, ap (λ (z : Lamps). z .alive) (c .lamps)),
+        omega (arith, v .pending, ap (λ (z : Lamps). z .pending) q, ap (λ (z : Lamps). z .pending) (c .lamps)),
+        omega (arith, v .suspected, ap (λ (z : Lamps). z .suspected) q, ap (λ (z : Lamps). z .suspected) (c .lamps)),
+      )
 
 -- what a record says of its address
 abbrev says : Bool → ℕ → Member → Standing
@@ -73,7 +89,7 @@ module _ (m : Members) (p : Packed m) (a : Addr) (place : ℕ) (e : place ≡ pl
       (λ i. says (sym (le-ltb place (m .len) (omega arith)) i) (sym h i) nobody)
       ∙ said nobody (List·getD-eq-default (held-table m) (words.noMember here) (omega (arith, view-many m p)))
 
-module _ (m : Members) (p : Packed m) (k : Member) (place : ℕ) (e : place ≡ place-in m (k .addr)) where
+module _ (own : Addr) (m : Members) (p : Packed m) (c : Counted own m) (k : Member) (place : ℕ) (e : place ≡ place-in m (k .addr)) where
   -- the record with the larger of the held and the given number
   abbrev kept : Member
   kept = record { addr = k .addr; state = k .state; number = max (list.held (here .same) (k .addr) (held-table m)) (k .number) }
@@ -81,18 +97,25 @@ module _ (m : Members) (p : Packed m) (k : Member) (place : ℕ) (e : place ≡ 
   put-is : list.put (here .same) (toMember kept) (held-table m) ≡ set (held-table m) place (toMember kept)
   put-is = put-place (here .same) (toMember kept) (held-table m) ∙ ap (λ (i : ℕ). set (held-table m) i (toMember kept)) (sym e)
 
-  pub updated-none : place ≡ m .len → m ≡ packMembers (list.update (here .same) (toMember k) (viewMembers m))
+  pub updated-none : place ≡ m .len → m ≡ packMembers own (list.update (here .same) (toMember k) (viewMembers m))
   unfolding list.update viewMembers
   updated-none h =
       let t : list.put (here .same) (toMember kept) (held-table m) ≡ held-table m =
       put-is ∙ set-out (held-table m) place (toMember kept) (omega (arith, view-many m p)) in
-      sym (ap (λ (l : List (words.Member Addr)). packMembers (record { table = l; order = take (m .len) (m .order .row); position = m .order .position })) t ∙ pack-view m p)
+      sym (ap (λ (l : List (words.Member Addr)). packMembers own (record { table = l; order = take (m .len) (m .order .row); position = m .order .position })) t ∙ pack-view own m p c)
 
-  pub updated : place < m .len
-      → _≡_ {A = Members} (record { table = set (m .table) place kept; len = m .len; order = m .order })
-      (packMembers (list.update (here .same) (toMember k) (viewMembers m)))
-  unfolding list.update viewMembers packMembers
-  updated h =
+  -- one less and one more is counted
+  put-counted : place < m .len → (was is : Lamps) → was ≡ lightOf (here .same) own (k .addr) (list.heldState (here .same) (k .addr) (held-table m)) → is ≡ lightOf (here .same) own (k .addr) (k .state)
+      → more (less (m .lamps) was) is ≡ lampsOf (here .same) own (list.put (here .same) (toMember kept) (held-table m))
+  put-counted h was is q r =
+      (λ i. more (less (c .lamps i) (q i)) (r i))
+      ∙ sym (lamps-put (here .same) (here-lawful .test) own (toMember kept) (held-table m) (there m p (k .addr) place e h))
+
+  pub updated : place < m .len → (was is : Lamps) → was ≡ lightOf (here .same) own (k .addr) (list.heldState (here .same) (k .addr) (held-table m)) → is ≡ lightOf (here .same) own (k .addr) (k .state)
+      → _≡_ {A = Members} (record { table = set (m .table) place kept; len = m .len; order = m .order; lamps = more (less (m .lamps) was) is })
+      (packMembers own (list.update (here .same) (toMember k) (viewMembers m)))
+  unfolding list.update viewMembers packWith
+  updated h was is q r =
       let u = take (m .len) (m .table) in
       let t : set (m .table) place kept ≡ padTo 64 nobody (map fromMember (list.put (here .same) (toMember kept) (held-table m))) =
       ap (λ (l : List Member). set l place kept) (p .table)
@@ -100,7 +123,7 @@ module _ (m : Members) (p : Packed m) (k : Member) (place : ℕ) (e : place ≡ 
       ∙ ap (padTo 64 nobody) (sym (ap (map fromMember) put-is ∙ replaced-row u place kept)) in
       let n : m .len ≡ length (list.put (here .same) (toMember kept) (held-table m)) =
       sym (ap length put-is ∙ length-set (held-table m) place (toMember kept) ∙ view-many m p) in
-      λ i. record { table = t i; len = n i; order = record { row = p .order i; position = m .order .position } }
+      λ i. record { table = t i; len = n i; order = record { row = p .order i; position = m .order .position }; lamps = put-counted h was is q r i }
 
 -- the position of a list that nothing leaves
 position-stays : (q n : ℕ) → q ≤ n - 1 → list.positionAfter (here .same) q n ≡ q
@@ -110,7 +133,7 @@ position-stays q n h =
       | false ↦ λ z. refl
     ]) refl
 
-module _ (m : Members) (g : Held m) (a : Addr) (place : ℕ) (e : place ≡ place-in m a) where
+module _ (own : Addr) (m : Members) (g : Held m) (c : Counted own m) (a : Addr) (place : ℕ) (e : place ≡ place-in m a) where
   -- as often in the order as in the table
   as-often : occurs (here .same) a (take (m .len) (m .order .row)) ≡ occurs (here .same) a (list.addrs (held-table m))
   unfolding viewMembers
@@ -131,7 +154,7 @@ module _ (m : Members) (g : Held m) (a : Addr) (place : ℕ) (e : place ≡ plac
       ]) refl in
       omega (arith, ltb-true (placeOf (here .same) a o) (length o) (sym (has-place (here .same) a o) ∙ in-o), order-used m (g .packed))
 
-  pub removed-none : place ≡ m .len → m ≡ packMembers (list.remove (here .same) a (viewMembers m))
+  pub removed-none : place ≡ m .len → m ≡ packMembers own (list.remove (here .same) a (viewMembers m))
   unfolding list.remove viewMembers
   removed-none h =
       let l = list.addrs (held-table m) in
@@ -150,15 +173,16 @@ module _ (m : Members) (g : Held m) (a : Addr) (place : ℕ) (e : place ≡ plac
       (omega (arith, ltb-false (placeOf (here .same) a o) (length o) (sym (has-place (here .same) a o) ∙ none-o))) in
       let s : list.positionAfter (here .same) (m .order .position) (length (erase (here .same) a o)) ≡ m .order .position =
       ap (λ (x : List Addr). list.positionAfter (here .same) (m .order .position) (length x)) r ∙ position-stays (m .order .position) (length o) (g .whole .place) in
-      sym ((λ i. packMembers (record { table = t i; order = r i; position = s i })) ∙ pack-view m (g .packed))
+      sym ((λ i. packMembers own (record { table = t i; order = r i; position = s i })) ∙ pack-view own m (g .packed) c)
 
-  pub removed : (at position : ℕ) (table : List Member) (order : List Addr) → place < m .len
+  pub removed : (at position : ℕ) (table : List Member) (order : List Addr) (was : Lamps) → place < m .len
       → at ≡ placeOf (here .same) a (take (m .len) (m .order .row)) → table ≡ padTo 64 nobody (removeAt (take (m .len) (m .table)) place)
       → order ≡ padTo 64 (here .blank) (removeAt (take (m .len) (m .order .row)) at) → position ≡ list.positionAfter (here .same) (m .order .position) (m .len - 1)
-      → _≡_ {A = Members} (record { table = table; len = m .len - 1; order = record { row = order; position = position } })
-      (packMembers (list.remove (here .same) a (viewMembers m)))
-  unfolding list.remove viewMembers packMembers
-  removed at position table order h q tq oq pq =
+      → was ≡ lightOf (here .same) own a (list.heldState (here .same) a (held-table m))
+      → _≡_ {A = Members} (record { table = table; len = m .len - 1; order = record { row = order; position = position }; lamps = less (m .lamps) was })
+      (packMembers own (list.remove (here .same) a (viewMembers m)))
+  unfolding list.remove viewMembers packWith
+  removed at position table order was h q tq oq pq wq =
       let o = take (m .len) (m .order .row) in
       let below = order-place at q h in
       let s : list.strike (here .same) a (held-table m) ≡ removeAt (held-table m) place =
@@ -177,6 +201,7 @@ module _ (m : Members) (g : Held m) (a : Addr) (place : ℕ) (e : place ≡ plac
           row = (oq ∙ ap (padTo 64 (here .blank)) (sym r)) i;
           position = (pq ∙ ap (list.positionAfter (here .same) (m .order .position)) k) i;
         };
+        lamps = ((λ j. less (c .lamps j) (wq j)) ∙ sym (lamps-strike (here .same) (here-lawful .test) own a (held-table m) (there m (g .packed) a place e h))) i;
       }
 
 -- each way out of an addition
@@ -194,31 +219,32 @@ module _ (m : list.Members Addr) (a : Addr) (number : ℕ) where
   unfolding list.add when
   add-done ds d rest h e = rw (lt-leb 64 (length (m .table)) h, e)
 
-module _ (m : Members) (p : Packed m) (a : Addr) (number : ℕ) (draws : List ℕ) (from : ℕ) where
-  pub kept-full : 64 ≤ m .len → _≡_ {A = Kept} (record { members = m; drew = Refused ListFull }) (addedOf m a number draws from)
-  kept-full h = ap (keptAs m (length draws - from)) (sym (add-full (viewMembers m) a number (drop from draws) (omega (arith, view-many m p))))
+module _ (own : Addr) (m : Members) (p : Packed m) (a : Addr) (number : ℕ) (draws : List ℕ) (from : ℕ) where
+  pub kept-full : 64 ≤ m .len → _≡_ {A = Kept} (record { members = m; drew = Refused ListFull }) (addedOf own m a number draws from)
+  kept-full h = ap (keptAs own m (length draws - from)) (sym (add-full (viewMembers m) a number (drop from draws) (omega (arith, view-many m p))))
 
-  pub kept-short : m .len < 64 → length draws ≤ from → _≡_ {A = Kept} (record { members = m; drew = Refused DrawsShort }) (addedOf m a number draws from)
+  pub kept-short : m .len < 64 → length draws ≤ from → _≡_ {A = Kept} (record { members = m; drew = Refused DrawsShort }) (addedOf own m a number draws from)
   kept-short h k =
-      ap (keptAs m (length draws - from))
+      ap (keptAs own m (length draws - from))
       (sym (add-short (viewMembers m) a number (drop from draws) (omega (arith, view-many m p)) (drop-of-length-le draws k)))
 
   -- the rows with one more
-  abbrev withAdded : List Addr → Members
-  withAdded order =
+  abbrev withAdded : List Addr → Lamps → Members
+  withAdded order is =
       record {
         table = set (m .table) (m .len) (record { addr = a; state = Alive; number = number });
         len = m .len + 1;
         order = record { row = order; position = m .order .position };
+        lamps = more (m .lamps) is;
       }
 
-  added-rows : (order : List Addr) → m .len < 64
+  added-rows : (order : List Addr) (is : Lamps) → m .len < 64 → Counted own m → is ≡ lightOf (here .same) own a Alive
       → order ≡ padTo 64 (here .blank) (insertAt (take (m .len) (m .order .row)) (getD draws from 0 % (m .len + 1)) a)
       → _≡_ {A = Members}
-      (withAdded order)
-      (packMembers (list.added (here .same) a number (getD draws from 0) (viewMembers m)))
-  unfolding list.added viewMembers packMembers
-  added-rows order h e =
+      (withAdded order is)
+      (packMembers own (list.added (here .same) a number (getD draws from 0) (viewMembers m)))
+  unfolding list.added viewMembers packWith
+  added-rows order is h c q e =
       let u = take (m .len) (m .table) in
       let o = take (m .len) (m .order .row) in
       let v : Member = record { addr = a; state = Alive; number = number } in
@@ -234,15 +260,16 @@ module _ (m : Members) (p : Packed m) (a : Addr) (number : ℕ) (draws : List �
         table = t i;
         len = n i;
         order = record { row = (e ∙ ap (λ (x : ℕ). padTo 64 (here .blank) (insertAt o (getD draws from 0 % x) a)) j) i; position = m .order .position };
+        lamps = ((λ x. more (c .lamps x) (q x)) ∙ sym (lamps-snoc (here .same) own (map toMember u) (toMember v))) i;
       }
 
-  pub kept-added : (order : List Addr) → m .len < 64 → from < length draws
+  pub kept-added : (order : List Addr) (is : Lamps) → m .len < 64 → from < length draws → Counted own m → is ≡ lightOf (here .same) own a Alive
       → order ≡ padTo 64 (here .blank) (insertAt (take (m .len) (m .order .row)) (getD draws from 0 % (m .len + 1)) a)
       → _≡_ {A = Kept}
-      (record { members = withAdded order; drew = Used 1 })
-      (addedOf m a number draws from)
-  kept-added order h k e =
+      (record { members = withAdded order is; drew = Used 1 })
+      (addedOf own m a number draws from)
+  kept-added order is h k c z e =
       let q : 1 ≡ length draws - from - length (drop (suc from) draws) = omega (arith, length-drop (suc from) draws) in
-      (λ i. record { members = added-rows order h e i; drew = Used (q i) })
-      ∙ ap (keptAs m (length draws - from))
+      (λ i. record { members = added-rows order is h c z e i; drew = Used (q i) })
+      ∙ ap (keptAs own m (length draws - from))
       (sym (add-done (viewMembers m) a number (drop from draws) (getD draws from 0) (drop (suc from) draws) (omega (arith, view-many m p)) (drop-cons draws from 0 k)))

@@ -6,15 +6,17 @@ use Prim.Native.Nat.{_≤_}
 use native.Mathlib.Omega.{arith}
 use lib.ListN.{length, take, length-take, length-map}
 use lib.Seq.{take-at, length-take-le}
+use Rattle.model.specs.declared.Lamps.{Lamps}
 use Rattle.model.specs.Rows.{padTo}
 use Rattle.laws.specs.Pad.{length-padTo}
 use Rattle.address.specs.Here.{Addr, here}
 use Rattle.model.specs.Words as words
 use Rattle.model.specs.Members as list
+use Rattle.model.specs.Lamps.{lampsOf}
 use Rattle.laws_list.specs.Whole.{Whole}
 use Rattle.member.specs.declared.Member.{Member}
 use Rattle.member.specs.declared.Members.{Members}
-use Rattle.member.specs.Views.{toMember, fromMember, nobody, viewMembers, packMembers, Packed, Held}
+use Rattle.member.specs.Views.{toMember, fromMember, nobody, viewMembers, packWith, packMembers, Packed, Held, Counted}
 
 -- a packed row has its length
 pub table-long : (m : Members) → Packed m → length (m .table) ≡ 64
@@ -44,37 +46,47 @@ pub to-from : (t : List (words.Member Addr)) → map toMember (map fromMember t)
 to-from [] = refl
 to-from (m ∷ t) = ap (λ (l : List (words.Member Addr)). m ∷ l) (to-from t)
 
--- what is packed is read back
-pub view-pack : (l : list.Members Addr) → length (l .order) ≡ length (l .table) → viewMembers (packMembers l) ≡ l
-unfolding viewMembers packMembers
-view-pack l e =
+-- what is packed is read back, whatever the counts
+pub view-with : (lamps : Lamps) (l : list.Members Addr) → length (l .order) ≡ length (l .table) → viewMembers (packWith lamps l) ≡ l
+unfolding viewMembers packWith
+view-with lamps l e =
     let t : map toMember (take (length (l .table)) (padTo 64 nobody (map fromMember (l .table)))) ≡ l .table =
     ap (map toMember) (take-at (map fromMember (l .table)) _ (length (l .table)) (length-map (l .table) fromMember)) ∙ to-from (l .table) in
     let o : take (length (l .table)) (padTo 64 (here .blank) (l .order)) ≡ l .order = take-at (l .order) _ (length (l .table)) e in
     λ i. record { table = t i; order = o i; position = l .position }
 
--- what is read is packed back
-pub pack-view : (m : Members) → Packed m → packMembers (viewMembers m) ≡ m
-unfolding viewMembers packMembers
-pack-view m p =
+pub view-pack : (own : Addr) (l : list.Members Addr) → length (l .order) ≡ length (l .table) → viewMembers (packMembers own l) ≡ l
+view-pack own l e = view-with (lampsOf (here .same) own (l .table)) l e
+
+-- what is read is packed back, if the counts are those of the list
+pub with-view : (m : Members) → Packed m → packWith (m .lamps) (viewMembers m) ≡ m
+unfolding viewMembers packWith
+with-view m p =
     let t : padTo 64 nobody (map fromMember (map toMember (take (m .len) (m .table)))) ≡ m .table =
     ap (padTo 64 nobody) (from-to (take (m .len) (m .table))) ∙ sym (p .table) in
     let n : length (map toMember (take (m .len) (m .table))) ≡ m .len = length-map (take (m .len) (m .table)) toMember ∙ table-used m p in
-    λ i. record { table = t i; len = n i; order = record { row = sym (p .order) i; position = m .order .position } }
+    λ i. record { table = t i; len = n i; order = record { row = sym (p .order) i; position = m .order .position }; lamps = m .lamps }
 
-pub packed-pack : (l : list.Members Addr) → length (l .order) ≡ length (l .table) → length (l .table) ≤ 64 → Packed (packMembers l)
-unfolding packMembers
-packed-pack l e h =
+pub pack-view : (own : Addr) (m : Members) → Packed m → Counted own m → packMembers own (viewMembers m) ≡ m
+pack-view own m p c = ap (λ (k : Lamps). packWith k (viewMembers m)) (sym (c .lamps)) ∙ with-view m p
+
+pub packed-pack : (lamps : Lamps) (l : list.Members Addr) → length (l .order) ≡ length (l .table) → length (l .table) ≤ 64 → Packed (packWith lamps l)
+unfolding packWith
+packed-pack lamps l e h =
     record {
       few = h;
       table = sym (ap (padTo 64 nobody) (take-at (map fromMember (l .table)) _ (length (l .table)) (length-map (l .table) fromMember)));
       order = sym (ap (padTo 64 (here .blank)) (take-at (l .order) _ (length (l .table)) e));
     }
 
--- a whole list is held by its rows: so one call's rows are the next call's
-pub held-pack : (l : list.Members Addr) → Whole (here .same) l → Held (packMembers l)
-held-pack l w =
+-- a whole list is held by its rows, with its counts: so one call's rows are the next call's
+pub held-pack : (own : Addr) (l : list.Members Addr) → Whole (here .same) l → Held (packMembers own l)
+held-pack own l w =
     record {
-      packed = packed-pack l (w .long) (w .few);
-      whole = subst (λ (x : list.Members Addr). Whole (here .same) x) (sym (view-pack l (w .long))) w;
+      packed = packed-pack (lampsOf (here .same) own (l .table)) l (w .long) (w .few);
+      whole = subst (λ (x : list.Members Addr). Whole (here .same) x) (sym (view-pack own l (w .long))) w;
     }
+
+pub counted-pack : (own : Addr) (l : list.Members Addr) → length (l .order) ≡ length (l .table) → Counted own (packMembers own l)
+unfolding packWith
+counted-pack own l e = record { lamps = ap (λ (x : list.Members Addr). lampsOf (here .same) own (x .table)) (sym (view-pack own l e)) }

@@ -6,11 +6,13 @@ use mathlib.Core.List.{List, [], _∷_, map}
 use Prim.Native.Nat.{ℕ, _-_, _≤_}
 use lib.ListN.{length, take, drop}
 use Rattle.model.specs.declared.State.the-variants.{Alive}
+use Rattle.model.specs.declared.Lamps.{Lamps}
 use Rattle.model.specs.Rows.{padTo}
 use Rattle.model.specs.Answers.{Answer, done, refused}
 use Rattle.address.specs.Here.{Addr, here}
 use Rattle.model.specs.Words as words
 use Rattle.model.specs.Members as list
+use Rattle.model.specs.Lamps.{lampsOf}
 use Rattle.laws_list.specs.Whole.{Whole}
 use Rattle.laws_list.specs.Places.{placeOf}
 use Rattle.order.specs.declared.Exclusion.{Exclusion}
@@ -42,13 +44,18 @@ unfoldable pub viewMembers : Members → list.Members Addr
 viewMembers m = record { table = map toMember (take (m .len) (m .table)); order = take (m .len) (m .order .row); position = m .order .position }
 
 -- the rows that hold a list: every unused place is zero
-unfoldable pub packMembers : list.Members Addr → Members
-packMembers l =
+unfoldable pub packWith : Lamps → list.Members Addr → Members
+packWith lamps l =
     record {
       table = padTo 64 nobody (map fromMember (l .table));
       len = length (l .table);
       order = record { row = padTo 64 (here .blank) (l .order); position = l .position };
+      lamps = lamps;
     }
+
+-- and the three counts are those of the list, the own address left out
+abbrev pub packMembers : Addr → list.Members Addr → Members
+packMembers own l = packWith (lampsOf (here .same) own (l .table)) l
 
 -- "it lists that address Alive at place 0"
 abbrev pub freshList : Addr → ℕ → list.Members Addr
@@ -65,6 +72,10 @@ pub record Held (m : Members) : Type 0 where
   pub packed : Packed m
   pub whole : Whole (here .same) (viewMembers m)
 
+-- what each function that keeps the counts asks besides: they are those of the list, the own address left out
+pub record Counted (own : Addr) (m : Members) : Type 0 where
+  pub lamps : m .lamps ≡ lampsOf (here .same) own (viewMembers m .table)
+
 -- what the list says of an address
 abbrev pub standingOf : Members → Addr → Standing
 standingOf m a =
@@ -77,27 +88,35 @@ standingOf m a =
     }
 
 -- a rule's answer in rows: where it is refused the members are as they came
-abbrev pub keptMembers : Members → Answer (list.Members Addr) → Members
-keptMembers m (refused r) = m
-keptMembers m (done l rest) = packMembers l
+abbrev pub keptMembers : Addr → Members → Answer (list.Members Addr) → Members
+keptMembers own m (refused r) = m
+keptMembers own m (done l rest) = packMembers own l
 
-abbrev pub keptAs : Members → ℕ → Answer (list.Members Addr) → Kept
-keptAs m k x = record { members = keptMembers m x; drew = drewOf k x }
+abbrev pub keptAs : Addr → Members → ℕ → Answer (list.Members Addr) → Kept
+keptAs own m k x = record { members = keptMembers own m x; drew = drewOf k x }
 
-abbrev pub addedOf : Members → Addr → ℕ → List ℕ → ℕ → Kept
-addedOf m a number draws from = keptAs m (length draws - from) (list.add (here .same) a number (viewMembers m) (drop from draws))
+abbrev pub addedOf : Addr → Members → Addr → ℕ → List ℕ → ℕ → Kept
+addedOf own m a number draws from = keptAs own m (length draws - from) (list.add (here .same) a number (viewMembers m) (drop from draws))
+
+-- an advance moves the order alone
+abbrev pub turnedMembers : Members → Answer (list.Members Addr) → Members
+turnedMembers m (refused r) = m
+turnedMembers m (done l rest) = packWith (m .lamps) l
+
+abbrev pub turnedAs : Members → ℕ → Answer (list.Members Addr) → Kept
+turnedAs m k x = record { members = turnedMembers m x; drew = drewOf k x }
 
 abbrev pub advancedOf : Members → List ℕ → ℕ → Kept
-advancedOf m draws from = keptAs m (length draws - from) (list.advance (here .blank) (viewMembers m) (drop from draws))
+advancedOf m draws from = turnedAs m (length draws - from) (list.advance (here .blank) (viewMembers m) (drop from draws))
 
-abbrev pub pickedMembers : Members → Answer (list.Picked Addr) → Members
-pickedMembers m (refused r) = m
-pickedMembers m (done p rest) = packMembers (p .members)
+abbrev pub pickedMembers : Addr → Members → Answer (list.Picked Addr) → Members
+pickedMembers own m (refused r) = m
+pickedMembers own m (done p rest) = packMembers own (p .members)
 
-abbrev pub pickedAs : Members → ℕ → Answer (list.Picked Addr) → Picked
-pickedAs m k x = record { members = pickedMembers m x; picks = pickedRow x; drew = drewOf k x }
+abbrev pub pickedAs : Addr → Members → ℕ → Answer (list.Picked Addr) → Picked
+pickedAs own m k x = record { members = pickedMembers own m x; picks = pickedRow x; drew = drewOf k x }
 
 abbrev pub pickedOf : Members → Addr → Exclusion → ℕ → List ℕ → ℕ → Picked
 pickedOf m own e wanted draws from =
-    pickedAs m (length draws - from)
+    pickedAs own m (length draws - from)
     (list.pickFrom (here .same) (here .blank) own (excluded e) wanted (viewMembers m) (drop from draws))

@@ -1,8 +1,11 @@
 // The list of peers over its probing order: a record for each listed address, and the order in which they are probed.
+pub mod lamps;
 pub mod sound;
 
 use address::Address;
+use lamps::light;
 use model::Drew;
+use model::Lamps;
 use model::Refusal;
 use model::State;
 use order::Exclusion;
@@ -16,7 +19,7 @@ ghost use Rattle.address.specs.Here.{here};
 ghost use Rattle.model.specs.Words.{noMember};
 ghost use Rattle.model.specs.Rows.{padTo, removeAt};
 ghost use Rattle.model.specs.Members as list;
-ghost use Rattle.member.specs.Views.{toMember, fromMember, nobody, viewMembers, packMembers, freshList, Held, standingOf, addedOf, advancedOf, pickedOf};
+ghost use Rattle.member.specs.Views.{toMember, fromMember, nobody, viewMembers, packMembers, freshList, Held, Counted, standingOf, addedOf, advancedOf, pickedOf};
 
 // What is held of a listed peer.
 pub struct Member {
@@ -38,11 +41,13 @@ impl Member {
     }
 }
 
-// The first len places of both rows are used: the records as they came in, and the order that they are probed in.
+// The first len places of both rows are used: the records as they came in, and the order that they are probed in. The lamps count
+// them by their states, the own address left out; whoever changes the list says which address that is.
 pub struct Members {
     pub table: [Member; Members::CAPACITY],
     pub len: usize,
     pub order: Order,
+    pub lamps: Lamps,
 }
 
 // What a list says of an address: its place, its state and its number; or the length, Alive and 0 where it is not listed.
@@ -111,7 +116,7 @@ impl Members {
 
     // The list of a fresh node: its own address, Alive, at place 0.
     pub fn new(own: Address, number: u64) -> Members
-        ensures { λ r. ⌜ r ≡ packMembers (freshList own number) ⌝ }
+        ensures { λ r. ⌜ r ≡ packMembers own (freshList own number) ⌝ }
     {
         let mut table = [Member::none(); Members::CAPACITY];
         table[0] = Member {
@@ -125,6 +130,7 @@ impl Members {
             table,
             len: 1,
             order: Order { row, position: 0 },
+            lamps: Lamps::none(),
         }
     }
 
@@ -212,9 +218,16 @@ impl Members {
     }
 
     // An address is added at the end of the table, Alive, and at draw mod (length + 1) of the order. That it is not listed is the caller's test.
-    pub fn add_member(self, a: Address, number: u64, draws: &[u64], from: usize) -> Kept
-        requires { ⌜ Held self × (from ≤ length (now draws)) ⌝ }
-        ensures { λ r. ⌜ r ≡ addedOf self a number (now (draws .entry)) from ⌝ }
+    pub fn add_member(
+        self,
+        own: Address,
+        a: Address,
+        number: u64,
+        draws: &[u64],
+        from: usize,
+    ) -> Kept
+        requires { ⌜ Held self × Counted own self × (from ≤ length (now draws)) ⌝ }
+        ensures { λ r. ⌜ r ≡ addedOf own self a number (now (draws .entry)) from ⌝ }
     {
         let n = self.len;
         if Members::CAPACITY <= n {
@@ -248,15 +261,16 @@ impl Members {
                     row: order::insert(row, n, place, a),
                     position: order.position,
                 },
+                lamps: self.lamps.plus(light(own, a, State::Alive)),
             },
             drew: Drew::Used(1),
         }
     }
 
     // An address leaves the list and the order. One that is not listed leaves the members as they came.
-    pub fn remove_member(self, a: Address) -> Members
-        requires { ⌜ Held self ⌝ }
-        ensures { λ r. ⌜ r ≡ packMembers (list.remove (here .same) a (viewMembers self)) ⌝ }
+    pub fn remove_member(self, own: Address, a: Address) -> Members
+        requires { ⌜ Held self × Counted own self ⌝ }
+        ensures { λ r. ⌜ r ≡ packMembers own (list.remove (here .same) a (viewMembers self)) ⌝ }
     {
         let n = self.len;
         let held = self.find(a);
@@ -267,6 +281,7 @@ impl Members {
         let order = self.order;
         let row = order.row;
         let at = order::find_place(&row, n, a);
+        let was = held.state;
         Members {
             table: close_up(table, n, held.place),
             len: n - 1,
@@ -275,13 +290,14 @@ impl Members {
                 row: order::remove(row, n, at),
                 position: position_after(order.position, n - 1),
             },
+            lamps: self.lamps.minus(light(own, a, was)),
         }
     }
 
     // A record at the place of its address: the larger of the held and the given number, and the given state. One that is not listed leaves the members as they came.
-    fn put(self, held: Standing, member: Member) -> Members
-        requires { ⌜ Held self × (held ≡ standingOf self (member .addr)) × (held .place ≤ self .len) ⌝ }
-        ensures { λ r. ⌜ r ≡ packMembers (list.update (here .same) (toMember member) (viewMembers self)) ⌝ }
+    fn put(self, own: Address, held: Standing, member: Member) -> Members
+        requires { ⌜ Held self × Counted own self × (held ≡ standingOf self (member .addr)) × (held .place ≤ self .len) ⌝ }
+        ensures { λ r. ⌜ r ≡ packMembers own (list.update (here .same) (toMember member) (viewMembers self)) ⌝ }
     {
         let n = self.len;
         let place = held.place;
@@ -298,30 +314,34 @@ impl Members {
             number,
         };
         let order = self.order;
+        let was = held.state;
+        let others = self.lamps.minus(light(own, addr, was));
         Members {
             table,
             len: n,
             order,
+            lamps: others.plus(light(own, addr, state)),
         }
     }
 
     // The record of a listed address is replaced, at the larger of the held and the given number.
-    pub fn update_member(self, member: Member) -> Members
-        requires { ⌜ Held self ⌝ }
-        ensures { λ r. ⌜ r ≡ packMembers (list.update (here .same) (toMember member) (viewMembers self)) ⌝ }
+    pub fn update_member(self, own: Address, member: Member) -> Members
+        requires { ⌜ Held self × Counted own self ⌝ }
+        ensures { λ r. ⌜ r ≡ packMembers own (list.update (here .same) (toMember member) (viewMembers self)) ⌝ }
     {
         let held = self.find(member.addr);
-        self.put(held, member)
+        self.put(own, held, member)
     }
 
     // The number of a listed address is raised, and its state stays.
-    pub fn raise_number(self, a: Address, number: u64) -> Members
-        requires { ⌜ Held self ⌝ }
-        ensures { λ r. ⌜ r ≡ packMembers (list.update (here .same) (record { addr = a; state = list.heldState (here .same) a (viewMembers self .table); number = number }) (viewMembers self)) ⌝ }
+    pub fn raise_number(self, own: Address, a: Address, number: u64) -> Members
+        requires { ⌜ Held self × Counted own self ⌝ }
+        ensures { λ r. ⌜ r ≡ packMembers own (list.update (here .same) (record { addr = a; state = list.heldState (here .same) a (viewMembers self .table); number = number }) (viewMembers self)) ⌝ }
     {
         let held = self.find(a);
         let state = held.state;
         self.put(
+            own,
             held,
             Member {
                 addr: a,
@@ -340,11 +360,13 @@ impl Members {
         let table = self.table;
         let order = turned.order;
         let drew = turned.drew;
+        let lamps = self.lamps;
         Kept {
             members: Members {
                 table,
                 len: self.len,
                 order,
+                lamps,
             },
             drew,
         }
@@ -359,7 +381,7 @@ impl Members {
         draws: &[u64],
         from: usize,
     ) -> Picked
-        requires { ⌜ Held self × (wanted ≤ 4) × (from ≤ length (now draws)) ⌝ }
+        requires { ⌜ Held self × Counted own self × (wanted ≤ 4) × (from ≤ length (now draws)) ⌝ }
         ensures { λ r. ⌜ r ≡ pickedOf self own exclusion wanted (now (draws .entry)) from ⌝ }
     {
         let picked = order::pick(self.order, self.len, own, exclusion, wanted, draws, from);
@@ -367,11 +389,13 @@ impl Members {
         let order = picked.order;
         let picks = picked.picks;
         let drew = picked.drew;
+        let lamps = self.lamps;
         Picked {
             members: Members {
                 table,
                 len: self.len,
                 order,
+                lamps,
             },
             picks,
             drew,

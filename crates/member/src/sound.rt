@@ -1,6 +1,7 @@
 // Is a list that was handed in sound? Every clause of the rules, for any value of the type.
 use crate::Member;
 use crate::Members;
+use crate::lamps::lamps_of;
 use address::Address;
 use model::State;
 ghost use mathlib.Core.Path.{_≡_};
@@ -153,9 +154,10 @@ fn order_ends(order: [Address; Members::CAPACITY], n: usize) -> bool
     true
 }
 
-// Counts, distinct addresses, the order a permutation of them, the position, addresses in range, and every unused place zero.
-pub fn sound_members(m: Members) -> bool
-    ensures { λ r. ⌜ r ≡ soundMembers here (map toMember (m .table)) (m .order .row) (m .len) (m .order .position) ⌝ }
+// Counts, distinct addresses, the order a permutation of them, the position, addresses in range, every unused place zero, and the lamps
+// those of the list.
+pub fn sound_members(m: Members, own: Address) -> bool
+    ensures { λ r. ⌜ r ≡ soundMembers here own (map toMember (m .table)) (m .order .row) (m .len) (m .order .position) (m .lamps) ⌝ }
 {
     let n = m.len;
     if Members::CAPACITY < n {
@@ -175,6 +177,10 @@ pub fn sound_members(m: Members) -> bool
         return false;
     }
     if !order_ends(row, n) {
+        return false;
+    }
+    let lamps = m.lamps;
+    if !lamps.same(lamps_of(table, n, own)) {
         return false;
     }
     matches(listed, row, n)

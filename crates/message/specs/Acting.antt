@@ -60,7 +60,7 @@ pub record Acted (x : Answer (M.Out Addr)) (w : handler.News Addr) (m : Node) (d
   pub left : drop next draws ≡ rest
   pub within : next ≤ length draws
 
-module _ (n : Node) (r : Ready n) (v : handler.Verdict Addr) (draws : List ℕ) (used : ℕ) (h : used ≤ length draws) (k : Kept) (is : k ≡ listAfterOf (n .members) v draws used) where
+module _ (n : Node) (r : Ready n) (v : handler.Verdict Addr) (draws : List ℕ) (used : ℕ) (h : used ≤ length draws) (k : Kept) (is : k ≡ listAfterOf (n .own) (n .members) v draws used) where
   abbrev x : Answer (list.Members Addr)
   x = handler.listAfter here v (viewMembers (n .members)) (drop used draws)
 
@@ -88,8 +88,8 @@ module _ (n : Node) (r : Ready n) (v : handler.Verdict Addr) (draws : List ℕ) 
     pub drawn-within : used + more ≤ length draws
     drawn-within = listed .within
 
-    kept : k .members ≡ packMembers (listed .gave)
-    kept = ap (λ (y : Kept). y .members) is ∙ ap (keptMembers (n .members)) (listed .is)
+    kept : k .members ≡ packMembers (n .own) (listed .gave)
+    kept = ap (λ (y : Kept). y .members) is ∙ ap (keptMembers (n .own) (n .members)) (listed .is)
 
     then-tells : whole ≡ telling (listed .gave) (listed .rest)
     then-tells = list-first (done (listed .gave) (listed .rest)) (listed .is)

@@ -214,7 +214,7 @@ pub fn handle_gossip(node: Node, lent: Lent, draws: &[u64]) -> Heard
     let mut i = 0;
     while i <= lent.given {
         let verdict = verdict_at(members, node.own, deceased, lent, i);
-        let kept = rules::list_after(members, verdict, draws, used);
+        let kept = rules::list_after(members, node.own, verdict, draws, used);
         let drew = kept.drew;
         match drew {
             Drew::Used(more) => used += more,

@@ -9,6 +9,7 @@ use lib.Dec.{leb}
 use Rattle.model.specs.declared.State.{State}
 use Rattle.model.specs.declared.State.the-variants.{Alive}
 use Rattle.model.specs.declared.Settings.{Settings}
+use Rattle.model.specs.declared.Lamps.{Lamps}
 use Rattle.model.specs.declared.Kind.{Kind}
 use Rattle.model.specs.declared.Kind.the-variants as kind
 use Rattle.model.specs.Rows.{pick, padTo}
@@ -19,6 +20,7 @@ use Rattle.model.specs.Limit.{limitOf}
 use Rattle.model.specs.Heap.{push}
 use Rattle.model.specs.Choose.{choose, termsOf, entryOf, death}
 use Rattle.model.specs.Members as list
+use Rattle.model.specs.Lamps.{lampsOf}
 
 -- what is to be spread: the heap of the living and the heap of deaths
 pub record Disseminator (A : Type 0) : Type 0 where
@@ -124,7 +126,7 @@ module _ {A : Type 0} (address : Address A) where
       (s .disseminator .deceased) in
       record { node = withDisseminator s (record { alive = c .alive; deceased = c .deceased }); gossip = c .chosen }
 
--- A node as it is kept: rows of a fixed number of places, and how many of them are used
+-- A node as it is kept: rows of a fixed number of places, how many of them are used, and "the three counts"
 pub record Row (B : Type 0) : Type 0 where
   pub places : List B
   pub used : ℕ
@@ -136,6 +138,7 @@ pub record Stored (A : Type 0) : Type 0 where
   pub order : List A
   pub listed : ℕ
   pub position : ℕ
+  pub lamps : Lamps
   pub alive : Row (Entry A)
   pub deceased : Row (Entry A)
   pub timers : Row (Timer A)
@@ -146,7 +149,7 @@ inUse r = take (r .used) (r .places)
 abbrev pub rowOf : {B : Type 0} → ℕ → B → List B → Row B
 rowOf places blank l = record { places = padTo places blank l; used = length l }
 
--- the node that the rows hold
+-- the node that the rows hold: the counts are those of its list
 unfoldable pub loaded : {A : Type 0} → Stored A → Node A
 loaded s =
     record {
@@ -157,7 +160,7 @@ loaded s =
       timers = inUse (s .timers);
     }
 
--- the rows that hold a node: every unused place is zero
+-- the rows that hold a node: every unused place is zero, and the counts are true
 unfoldable pub stored : {A : Type 0} → Address A → Node A → Stored A
 stored address s =
     record {
@@ -167,6 +170,7 @@ stored address s =
       order = padTo list-places (address .blank) (s .members .order);
       listed = length (s .members .table);
       position = s .members .position;
+      lamps = lampsOf (address .same) (s .own) (s .members .table);
       alive = rowOf heap-places unused (s .disseminator .alive);
       deceased = rowOf heap-places unused (s .disseminator .deceased);
       timers = rowOf timer-places (noTimer address) (s .timers);

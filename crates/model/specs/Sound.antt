@@ -6,6 +6,7 @@ use Prim.Native.Nat.{ℕ}
 use lib.ListN.{take, drop}
 use lib.Dec.{eqb, ltb, leb}
 use Rattle.model.specs.declared.Settings.{Settings}
+use Rattle.model.specs.declared.Lamps.{Lamps}
 use Rattle.model.specs.declared.Kind.{Kind}
 use Rattle.model.specs.declared.Kind.the-variants as kind
 use Rattle.model.specs.Rows.{pick, every, isEmpty, has, erase}
@@ -14,6 +15,7 @@ use Rattle.model.specs.Words.{Address, isAlive, partsOf, Gossip, Entry, 
 use Rattle.model.specs.Size.{sizeOf}
 use Rattle.model.specs.Heap.{inOrder}
 use Rattle.model.specs.Members.{addrs}
+use Rattle.model.specs.Lamps.{lampsOf, sameLamps}
 use Rattle.model.specs.Node.{Row, Stored, inUse}
 
 -- "Settings: four waits below 2^31 ticks, group 0 to 4, send constant 0 to 8, max_selected 1 to 64, max_size 59 to 1373."
@@ -81,8 +83,8 @@ module _ {A : Type 0} (address : Address A) where
   isNoMember m = address .same (m .addr) (address .blank) && isAlive (m .state) && eqb (m .number) 0
 
   -- the list and the order: counts, distinct, a permutation, the position, addresses, and every unused place zero
-  unfoldable pub soundMembers : List (Member A) → List A → ℕ → ℕ → Bool
-  soundMembers table order n position =
+  unfoldable pub soundRows : List (Member A) → List A → ℕ → ℕ → Bool
+  soundRows table order n position =
       leb n list-places
       && distinct (address .same) (addrs (take n table))
       && permutes (address .same) (take n order) (addrs (take n table))
@@ -90,6 +92,10 @@ module _ {A : Type 0} (address : Address A) where
       && every (address .valid) (addrs (take n table))
       && every isNoMember (drop n table)
       && every (λ a. address .same a (address .blank)) (drop n order)
+
+  -- and "the three counts" are those of the list
+  unfoldable pub soundMembers : A → List (Member A) → List A → ℕ → ℕ → Lamps → Bool
+  soundMembers own table order n position lamps = soundRows table order n position && sameLamps lamps (lampsOf (address .same) own (take n table))
 
   abbrev pub isNoTimer : Timer A → Bool
   isNoTimer t = address .same (t .addr) (address .blank) && eqb (t .number) 0 && eqb (t .since) 0
@@ -105,7 +111,7 @@ module _ {A : Type 0} (address : Address A) where
   sound s =
       inRange (s .settings)
       && address .valid (s .own)
-      && soundMembers (s .table) (s .order) (s .listed) (s .position)
+      && soundMembers (s .own) (s .table) (s .order) (s .listed) (s .position) (s .lamps)
       && soundHeap kind.Alive (s .alive)
       && soundHeap kind.Deceased (s .deceased)
       && soundTimers (s .timers)

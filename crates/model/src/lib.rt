@@ -1,14 +1,93 @@
 // The words that the rules and the code share: whatever holds no address. The rules themselves stand in specs/.
 ghost use mathlib.Core.Path.{_≡_};
 ghost use mathlib.Core.Bool.{_&&_};
+ghost use Prim.Native.Nat.{_+_, _≤_};
 ghost use Rattle.model.specs.Answers.{numberOf};
 ghost use Rattle.model.specs.Words.{isAlive};
+ghost use Rattle.model.specs.Lamps.{dark, lampOf, more, less, sameLamps};
 
 // What a list says of a peer. Alive comes first: it is the state of an unused place.
 pub enum State {
     Alive,
     Pending,
     Suspected,
+}
+
+// What the front panel shows: how many peers are in each state, the own address left out.
+pub struct Lamps {
+    pub alive: usize,
+    pub pending: usize,
+    pub suspected: usize,
+}
+
+impl Lamps {
+    // Nobody is counted.
+    pub fn none() -> Lamps
+        ensures { λ r. ⌜ r ≡ dark ⌝ }
+    {
+        Lamps {
+            alive: 0,
+            pending: 0,
+            suspected: 0,
+        }
+    }
+
+    // The one lamp of a state.
+    pub fn one(state: State) -> Lamps
+        ensures { λ r. ⌜ r ≡ lampOf state ⌝ }
+    {
+        match state {
+            State::Alive => Lamps {
+                alive: 1,
+                pending: 0,
+                suspected: 0,
+            },
+            State::Pending => Lamps {
+                alive: 0,
+                pending: 1,
+                suspected: 0,
+            },
+            State::Suspected => Lamps {
+                alive: 0,
+                pending: 0,
+                suspected: 1,
+            },
+        }
+    }
+
+    // So many more.
+    pub fn plus(self, by: Lamps) -> Lamps
+        requires { ⌜ (self .alive + by .alive ≤ 128) × (self .pending + by .pending ≤ 128) × (self .suspected + by .suspected ≤ 128) ⌝ }
+        ensures { λ r. ⌜ r ≡ more self by ⌝ }
+    {
+        Lamps {
+            alive: self.alive + by.alive,
+            pending: self.pending + by.pending,
+            suspected: self.suspected + by.suspected,
+        }
+    }
+
+    // So many less.
+    pub fn minus(self, by: Lamps) -> Lamps
+        requires { ⌜ (by .alive ≤ self .alive) × (by .pending ≤ self .pending) × (by .suspected ≤ self .suspected) ⌝ }
+        ensures { λ r. ⌜ r ≡ less self by ⌝ }
+    {
+        Lamps {
+            alive: self.alive - by.alive,
+            pending: self.pending - by.pending,
+            suspected: self.suspected - by.suspected,
+        }
+    }
+
+    // Are all three counts the same?
+    pub fn same(self, other: Lamps) -> bool
+        ensures { λ r. ⌜ r ≡ sameLamps self other ⌝ }
+    {
+        both(
+            both(self.alive == other.alive, self.pending == other.pending),
+            self.suspected == other.suspected,
+        )
+    }
 }
 
 // The two heaps of a node: what is known of the living, and the deaths.

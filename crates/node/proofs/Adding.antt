@@ -74,7 +74,7 @@ module _ (n : Node) (a : Addr) (number : ℕ) (draws : List ℕ) where
         reached : kept here s draws (after (list.add (here .same) a number (viewNode n .members) draws)) ≡ addPeer here s a number draws
         reached = sym (passed ∙ ap (λ (u : Bool). orAlready u s (kept here s draws (joins here a number (viewNode n) draws))) l)
 
-        used-of : (x : A.Answer (list.Members Addr)) (used : ℕ) (m : Members) → drewOf (length draws) x ≡ drew.Used used → m ≡ keptMembers (n .members) x
+        used-of : (x : A.Answer (list.Members Addr)) (used : ℕ) (m : Members) → drewOf (length draws) x ≡ drew.Used used → m ≡ keptMembers (n .own) (n .members) x
             → plainAnswer (Done used) (withMembers n m) ≡ answerOf (kept here s draws (after x))
         used-of (A.refused u) used m d q = let z : _≡_ {A = ℕ} 0 1 = ap drewn d in absurd (omega arith)
           where
@@ -95,7 +95,7 @@ module _ (n : Node) (a : Addr) (number : ℕ) (draws : List ℕ) where
             drewn (drew.Used w) = 1
 
         pub add-kept : (used : ℕ) (m : Members) → drewOf (length draws) (list.add (here .same) a number (viewNode n .members) draws) ≡ drew.Used used
-            → m ≡ keptMembers (n .members) (list.add (here .same) a number (viewNode n .members) draws)
+            → m ≡ keptMembers (n .own) (n .members) (list.add (here .same) a number (viewNode n .members) draws)
             → plainAnswer (Done used) (withMembers n m) ≡ answerOf (addPeer here s a number draws)
         add-kept used m d q = used-of (list.add (here .same) a number (viewNode n .members) draws) used m d q ∙ ap answerOf reached
 

@@ -32,8 +32,8 @@ none-chosen t a d e f =
     (subst (λ (y : List (W.Entry Addr)). choosing.choose here t [] y ≡ choosing.begin here [] y) (sym f) refl)
 
 module _ (n : Node) (r : Ready n) where
-  members-back : packMembers (viewMembers (n .members)) ≡ n .members
-  members-back = packing.pack-view (n .members) (r .members .packed)
+  members-back : packMembers (n .own) (viewMembers (n .members)) ≡ n .members
+  members-back = packing.pack-view (n .own) (n .members) (r .members .packed) (r .lamps)
 
   disseminator-back : packDisseminator (viewDisseminator (n .disseminator)) ≡ n .disseminator
   disseminator-back = both-back (n .disseminator) (r .heaps)
@@ -56,7 +56,7 @@ module _ (n : Node) (r : Ready n) where
         timers = timers-back i;
       }
 
-  pub part-members : (l : list.Members Addr) (m : Members) → m ≡ packMembers l → withMembers n m ≡ packNode (M.withMembers (viewNode n) l)
+  pub part-members : (l : list.Members Addr) (m : Members) → m ≡ packMembers (n .own) l → withMembers n m ≡ packNode (M.withMembers (viewNode n) l)
   unfolding packNode viewNode
   part-members l m e =
       λ i. record {

@@ -11,13 +11,14 @@ use Rattle.address.specs.Here.{Addr, here, here-lawful}
 use Rattle.model.specs.declared.Kind.the-variants as kind
 use Rattle.model.specs.Words as W
 use Rattle.model.specs.Node as M
+use Rattle.model.specs.Lamps.{lampsOf}
 use Rattle.model.specs.Sound.{sound}
 use Rattle.laws_list.specs.Whole.{Whole}
 use Rattle.laws_node.specs.Good.{Good, FullRows, sound-good, stored-loaded}
 use Rattle.heap.specs.Views.{toEntry, fromEntry}
 use Rattle.heap.specs.Views as heaps
 use Rattle.disseminate.specs.Views.{PackedHeaps}
-use Rattle.member.specs.Views.{toMember, fromMember, viewMembers, packMembers, Held}
+use Rattle.member.specs.Views.{toMember, fromMember, viewMembers, packWith, Held, Counted}
 use Rattle.member.specs.Views as members
 use Rattle.member.specs.Packing as packing
 use Rattle.laws.specs.Packing as rows
@@ -62,14 +63,14 @@ unstored-stored n =
     λ i. record {
       settings = n .settings;
       own = n .own;
-      members = record { table = t i; len = n .members .len; order = n .members .order };
+      members = record { table = t i; len = n .members .len; order = n .members .order; lamps = n .members .lamps };
       disseminator = record { alive = record { entries = a i; len = n .disseminator .alive .len }; deceased = record { entries = d i; len = n .disseminator .deceased .len } };
       timers = record { entries = m i; len = n .timers .len };
     }
 
 -- the rows of a node of lists
 pub unstored-pack : (s : M.Node Addr) → unstored (M.stored here s) ≡ packNode s
-unfolding unstored M.stored packNode packMembers
+unfolding unstored M.stored packNode packWith
 unstored-pack s =
     let t = map-pad fromMember 64 (W.noMember here) (s .members .table) in
     let a = map-pad fromEntry 128 W.unused (s .disseminator .alive) in
@@ -78,7 +79,7 @@ unstored-pack s =
     λ i. record {
       settings = s .settings;
       own = s .own;
-      members = record { table = t i; len = length (s .members .table); order = record { row = padTo 64 (here .blank) (s .members .order); position = s .members .position } };
+      members = record { table = t i; len = length (s .members .table); order = record { row = padTo 64 (here .blank) (s .members .order); position = s .members .position }; lamps = lampsOf (here .same) (s .own) (s .members .table) };
       disseminator = record { alive = record { entries = a i; len = length (s .disseminator .alive) }; deceased = record { entries = d i; len = length (s .disseminator .deceased) } };
       timers = record { entries = m i; len = length (s .timers) };
     }
@@ -103,6 +104,7 @@ loaded-view n =
 pub record Ready (n : Node) : Type 0 where
   pub good : Good here (viewNode n)
   pub members : Held (n .members)
+  pub lamps : Counted (n .own) (n .members)
   pub heaps : PackedHeaps (n .disseminator)
   pub timers : timers.Packed (n .timers)
 
@@ -110,7 +112,7 @@ pub record Ready (n : Node) : Type 0 where
 pub view-pack : (s : M.Node Addr) → Whole (here .same) (s .members) → viewNode (packNode s) ≡ s
 unfolding packNode viewNode
 view-pack s w =
-    let t = packing.view-pack (s .members) (w .long) in
+    let t = packing.view-pack (s .own) (s .members) (w .long) in
     let a = heaps.view-pack (s .disseminator .alive) in
     let d = heaps.view-pack (s .disseminator .deceased) in
     let m = rows.view-pack toTimer fromTimer (λ x. refl) 16 noTimer (s .timers) in
@@ -122,7 +124,8 @@ unfolding packNode
 ready-pack s g =
     record {
       good = rw (view-pack s (g .whole)) g;
-      members = packing.held-pack (s .members) (g .whole);
+      members = packing.held-pack (s .own) (s .members) (g .whole);
+      lamps = packing.counted-pack (s .own) (s .members) (g .whole .long);
       heaps = record { alive = heaps.packed-pack (s .disseminator .alive) (g .heaps kind.Alive .few); deceased = heaps.packed-pack (s .disseminator .deceased) (g .heaps kind.Deceased .few) };
       timers = rows.packed-pack toTimer fromTimer 16 noTimer (s .timers) (g .few);
     }

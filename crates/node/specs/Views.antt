@@ -44,7 +44,7 @@ packNode s =
     record {
       settings = s .settings;
       own = s .own;
-      members = packMembers (s .members);
+      members = packMembers (s .own) (s .members);
       disseminator = packDisseminator (s .disseminator);
       timers = packTimers (s .timers);
     }
@@ -66,6 +66,7 @@ storedView n =
       order = n .members .order .row;
       listed = n .members .len;
       position = n .members .order .position;
+      lamps = n .members .lamps;
       alive = heapRow (n .disseminator .alive);
       deceased = heapRow (n .disseminator .deceased);
       timers = rowView (n .timers);
@@ -76,7 +77,7 @@ unstored s =
     record {
       settings = s .settings;
       own = s .own;
-      members = record { table = map fromMember (s .table); len = s .listed; order = record { row = s .order; position = s .position } };
+      members = record { table = map fromMember (s .table); len = s .listed; order = record { row = s .order; position = s .position }; lamps = s .lamps };
       disseminator = record { alive = rowHeap (s .alive); deceased = rowHeap (s .deceased) };
       timers = rowTimers (s .timers);
     }

@@ -8,6 +8,7 @@ use disseminate::Disseminator;
 use member::Member;
 use member::Members;
 use model::Drew;
+use model::Lamps;
 use model::Refusal;
 use model::Reply;
 use model::Settings;
@@ -71,7 +72,7 @@ impl Node {
 
 // A list of nobody.
 fn nobody_listed() -> Members
-    ensures { λ r. ⌜ r ≡ packMembers (nobody .members) ⌝ }
+    ensures { λ r. ⌜ r ≡ packMembers (here .blank) (nobody .members) ⌝ }
 {
     let table = [Member::none(); Members::CAPACITY];
     let row = [address::blank(); Members::CAPACITY];
@@ -79,6 +80,7 @@ fn nobody_listed() -> Members
         table,
         len: 0,
         order: Order { row, position: 0 },
+        lamps: Lamps::none(),
     }
 }
 
@@ -168,7 +170,7 @@ pub fn add_peer(node: Node, a: Address, number: u64, draws: &[u64]) -> Answer
     if members.lists(a) {
         return Answer::plain(Reply::Already, node);
     }
-    let kept = members.add_member(a, number, draws, 0);
+    let kept = members.add_member(node.own, a, number, draws, 0);
     let after = kept.members;
     let drew = kept.drew;
     match drew {

@@ -54,11 +54,14 @@ impl Node {
         ensures { λ r. ⌜ r ≡ packNode (M.change here a state number (viewNode self)) ⌝ }
     {
         let members = self.members;
-        let after = members.update_member(Member {
-            addr: a,
-            state,
-            number,
-        });
+        let after = members.update_member(
+            self.own,
+            Member {
+                addr: a,
+                state,
+                number,
+            },
+        );
         self.with_members(after)
     }
 

@@ -21,7 +21,7 @@ pub fn sound(node: Node) -> bool
     let set = crate::settings::in_range(settings);
     let own = address::in_range(node.own);
     let members = node.members;
-    let listed = member::sound::sound_members(members);
+    let listed = member::sound::sound_members(members, node.own);
     let disseminator = node.disseminator;
     let alive = disseminator.alive;
     let living = heap::sound::heap_sound(alive, Kind::Alive, node.own);

@@ -27,9 +27,9 @@ use Rattle.node.specs.Views.{viewNode, packNode, withMembers}
 use Rattle.node.specs.Rows.{Ready, ready-pack, view-pack}
 use Rattle.node.specs.Parts.{part-members}
 
-pub missed : (m : Members) (k : ℕ) (x : Answer (list.Picked Addr)) (y : Picked) (u : Refusal) → y ≡ pickedAs m k x → y .drew ≡ drew.Refused u → x ≡ refused u
-missed m k (refused v) y u e d = cc (ap (λ (j : Picked). j .drew) e)
-missed m k (done p rest) y u e d = cc (ap (λ (j : Picked). j .drew) e)
+pub missed : (own : Addr) (m : Members) (k : ℕ) (x : Answer (list.Picked Addr)) (y : Picked) (u : Refusal) → y ≡ pickedAs own m k x → y .drew ≡ drew.Refused u → x ≡ refused u
+missed own m k (refused v) y u e d = cc (ap (λ (j : Picked). j .drew) e)
+missed own m k (done p rest) y u e d = cc (ap (λ (j : Picked). j .drew) e)
 
 -- what holds of an answer holds of what it gave
 pub after-is : {B : Type 0} {P : B → Type 0} {x : Answer B} {b : B} {ds : List ℕ} → x ≡ done b ds → After P x → P b
@@ -51,9 +51,10 @@ cap-le own none wanted len = omega arith
 cap-le own (some a) wanted len = omega arith
 
 -- a pick from the list of a good node, of which the code makes the list alone
-module _ (own : Addr) (except : Option Addr) (wanted : ℕ) (draws : List ℕ) (s : M.Node Addr) (g : Good here s) (m : Members) (y : Picked) {used : ℕ} {n t : Node} (d : y .drew ≡ drew.Used used) (f : n ≡ packNode s) (q : t ≡ withMembers n (y .members)) where
-  by-answer : (x : Answer (list.Picked Addr)) → y ≡ pickedAs m (length draws) x → After (Chosen (here .same) (here .blank) own (s .members) (list.cap (here .same) (here .blank) own except wanted (length (s .members .order))) []) x
+module _ (own : Addr) (except : Option Addr) (wanted : ℕ) (draws : List ℕ) (s : M.Node Addr) (mine : own ≡ s .own) (g : Good here s) (m : Members) (y : Picked) {used : ℕ} {n t : Node} (d : y .drew ≡ drew.Used used) (f : n ≡ packNode s) (q : t ≡ withMembers n (y .members)) where
+  by-answer : (x : Answer (list.Picked Addr)) → y ≡ pickedAs own m (length draws) x → After (Chosen (here .same) (here .blank) own (s .members) (list.cap (here .same) (here .blank) own except wanted (length (s .members .order))) []) x
       → Turned wanted draws s x used y t
+  unfolding packNode
   by-answer (refused u) e a = let z : _≡_ {A = ℕ} 0 1 = cc (ap (λ (j : Picked). j .drew) e) in absurd (omega arith)
   by-answer (done p rest) e a =
       let c = given a in
@@ -62,7 +63,7 @@ module _ (own : Addr) (except : Option Addr) (wanted : ℕ) (draws : List ℕ) (
       let is : t ≡ packNode (M.withMembers s (p .members)) =
       q
       ∙ (λ i. withMembers (f i) (e i .members))
-      ∙ part-members (packNode s) (ready-pack s g) (p .members) (packMembers (p .members)) refl
+      ∙ part-members (packNode s) (ready-pack s g) (p .members) (packMembers own (p .members)) (ap (λ (x : Addr). packMembers x (p .members)) mine)
       ∙ ap (λ (x : M.Node Addr). packNode (M.withMembers x (p .members))) (view-pack s (g .whole)) in
       record {
         p = p;
@@ -75,6 +76,6 @@ module _ (own : Addr) (except : Option Addr) (wanted : ℕ) (draws : List ℕ) (
         seen = ap viewNode is ∙ view-pack (M.withMembers s (p .members)) (good .whole);
       }
 
-  pub turned : y ≡ pickedAs m (length draws) (list.pickFrom (here .same) (here .blank) own except wanted (s .members) draws)
+  pub turned : y ≡ pickedAs own m (length draws) (list.pickFrom (here .same) (here .blank) own except wanted (s .members) draws)
       → Turned wanted draws s (list.pickFrom (here .same) (here .blank) own except wanted (s .members) draws) used y t
   turned e = by-answer _ e (after-drawn (pick-ends (here .same) (here .blank) own except wanted (s .members) draws (g .whole)))

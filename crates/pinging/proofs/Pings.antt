@@ -110,21 +110,21 @@ module _ (q : Probe) where
   reached = refl
 
   -- all draws are there yet
-  picked : q .picked ≡ pickedAs (q .node .members) (length (q .draws)) one-picked
+  picked : q .picked ≡ pickedAs (q .node .own) (q .node .members) (length (q .draws)) one-picked
   unfolding viewNode
-  picked = q .picked-is ∙ ap (λ (k : ℕ). pickedAs (q .node .members) k one-picked) (omega arith)
+  picked = q .picked-is ∙ ap (λ (k : ℕ). pickedAs (q .node .own) (q .node .members) k one-picked) (omega arith)
 
   pub ping-refused : (u : Refusal) → q .picked .drew ≡ drew.Refused u → plainStep (Refused u) (q .node) (q .wait) ≡ probed
   ping-refused u d =
       plain-step (Refused u) (q .node) (q .wait)
-      ∙ sym (ap (λ (x : A.Answer (list.Picked Addr)). outcome (then-ping x)) (missed (q .node .members) (length (q .draws)) one-picked (q .picked) u picked d))
+      ∙ sym (ap (λ (x : A.Answer (list.Picked Addr)). outcome (then-ping x)) (missed (q .node .own) (q .node .members) (length (q .draws)) one-picked (q .picked) u picked d))
       ∙ reached
 
   module _ {used : ℕ} {t : Node} (d : q .picked .drew ≡ drew.Used used) (e : t ≡ withMembers (q .spread .node) (q .picked .members)) where
     pub ping-turned : Turned 1 (q .draws) spent one-picked used (q .picked) t
-    unfolding M.spread
+    unfolding M.spread viewNode
     ping-turned =
-        turned (q .node .own) none 1 (q .draws) spent (spread-keeps here (viewNode (q .node)) (q .ready .good) .good) (q .node .members) (q .picked) d (ap (λ (x : Spread). x .node) (q .spread-is)) e picked
+        turned (q .node .own) none 1 (q .draws) spent refl (spread-keeps here (viewNode (q .node)) (q .ready .good) .good) (q .node .members) (q .picked) d (ap (λ (x : Spread). x .node) (q .spread-is)) e picked
 
     pub ping-kept : steppedOf (keptOf used (D.pinged here (q .tick) (map toGossip (take (q .spread .count) (q .spread .rows))) (viewNode t) (take (q .picked .picks .count) (q .picked .picks .row)))) ≡ probed
     ping-kept =

@@ -31,7 +31,7 @@ use Rattle.order.specs.declared.Exclusion.the-variants.{Peer}
 use Rattle.disseminate.specs.Views.{heldOr, viewDisseminator, Pushed}
 use Rattle.member.specs.declared.Members.{Members}
 use Rattle.member.specs.declared.Picked.{Picked}
-use Rattle.member.specs.Views.{Held, packMembers, viewMembers, pickedAs, pickedOf}
+use Rattle.member.specs.Views.{packMembers, viewMembers, pickedAs, pickedOf}
 use Rattle.node.specs.declared.Node.{Node}
 use Rattle.node.specs.Views.{viewNode, packNode, storedView, withMembers, withDisseminator}
 use Rattle.node.specs.Rows.{Ready, ready-pack, view-pack}
@@ -55,7 +55,7 @@ pub record Request : Type 0 where
   pub draws : List ℕ
   pub valid : here .valid target ≡ true
   pub members : Members
-  pub members-is : members ≡ packMembers (list.update (here .same) (record { addr = target; state = state.Suspected; number = number }) (viewMembers (node .members)))
+  pub members-is : members ≡ packMembers (node .own) (list.update (here .same) (record { addr = target; state = state.Suspected; number = number }) (viewMembers (node .members)))
   pub gossip : Gossip
   pub named : gossip .event ≡ Suspected (node .own) target number
   pub pushed : Pushed
@@ -113,11 +113,8 @@ module _ (q : Request) where
     seen : viewNode emitted ≡ said
     seen = ap viewNode (kept .node) ∙ view-pack said (said-good .whole)
 
-    pub said-held : Held (q .members)
-    said-held = ready-emitted .members
-      where
-        ready-emitted : Ready emitted
-        ready-emitted = rw (kept .node) (ready-pack said said-good)
+    pub said-ready : Ready emitted
+    said-ready = rw (kept .node) (ready-pack said said-good)
 
     pub wanted-few : q .node .settings .«ping_req_group_size» ≤ 4
     unfolding viewNode
@@ -132,23 +129,23 @@ module _ (q : Request) where
 
     module _ (k : Picked) (z : k ≡ pickedOf (q .members) (q .node .own) (Peer (q .target)) (q .node .settings .«ping_req_group_size») (q .draws) 0) where
       -- the pick of the rows is the model's
-      picked : k ≡ pickedAs (q .members) (length (q .draws)) (D.pickGroup here (q .target) said (q .draws))
+      picked : k ≡ pickedAs (said .own) (q .members) (length (q .draws)) (D.pickGroup here (q .target) said (q .draws))
       unfolding viewNode D.pickGroup
       picked =
           z
-          ∙ ap (λ (j : ℕ). pickedAs (q .members) j (D.pickGroup here (q .target) (viewNode emitted) (q .draws))) (omega arith)
-          ∙ ap (λ (x : M.Node Addr). pickedAs (q .members) (length (q .draws)) (D.pickGroup here (q .target) x (q .draws))) seen
+          ∙ ap (λ (j : ℕ). pickedAs (q .node .own) (q .members) j (D.pickGroup here (q .target) (viewNode emitted) (q .draws))) (omega arith)
+          ∙ ap (λ (x : M.Node Addr). pickedAs (x .own) (q .members) (length (q .draws)) (D.pickGroup here (q .target) x (q .draws))) seen
 
       pub request-refused : (u : Refusal) → k .drew ≡ drew.Refused u → plainStep (Refused u) (q .node) (q .wait) ≡ requested
       request-refused u d =
           plain-step (Refused u) (q .node) (q .wait)
-          ∙ sym (ap (λ (x : A.Answer (list.Picked Addr)). outcome (then-asked x)) (missed (q .members) (length (q .draws)) (D.pickGroup here (q .target) said (q .draws)) k u picked d))
+          ∙ sym (ap (λ (x : A.Answer (list.Picked Addr)). outcome (then-asked x)) (missed (said .own) (q .members) (length (q .draws)) (D.pickGroup here (q .target) said (q .draws)) k u picked d))
           ∙ reached
 
       module _ {used : ℕ} {t : Node} (d : k .drew ≡ drew.Used used) (y : t ≡ withMembers emitted (k .members)) where
         group : Turned (said .settings .«ping_req_group_size») (q .draws) said (D.pickGroup here (q .target) said (q .draws)) used k t
         unfolding D.pickGroup
-        group = turned (said .own) (some (q .target)) (said .settings .«ping_req_group_size») (q .draws) said said-good (q .members) k d (kept .node) y picked
+        group = turned (said .own) (some (q .target)) (said .settings .«ping_req_group_size») (q .draws) said refl said-good (q .members) k d (kept .node) y picked
 
         pub request-ready : Ready t
         request-ready = group .ready

@@ -173,11 +173,14 @@ pub fn send_ping_req(
     ensures { λ r. ⌜ Gives (calls.keptStep here (storedView node) (toWait wait) (now (draws .entry)) (D.sendPingReq here target number tick (viewNode node) (now (draws .entry)))) r ⌝ }
 {
     let members = node.members;
-    let changed = members.update_member(Member {
-        addr: target,
-        state: State::Suspected,
-        number,
-    });
+    let changed = members.update_member(
+        node.own,
+        Member {
+            addr: target,
+            state: State::Suspected,
+            number,
+        },
+    );
     let suspected = Gossip {
         event: Event::new_node_suspected(node.own, target, number),
     };

@@ -8,11 +8,13 @@ use mathlib.Core.Option.{some}
 use Prim.Native.Nat.{ℕ, suc, _+_, _≤_, _<_}
 use lib.ListN.{length, take, drop}
 use Rattle.model.specs.declared.Settings.{Settings}
+use Rattle.model.specs.declared.Lamps.{Lamps}
 use Rattle.model.specs.Rows.{one, occurs}
 use Rattle.model.specs.Bounds.{Room}
 use Rattle.address.specs.Here.{Addr, here, here-lawful}
 use Rattle.model.specs.Words as W
 use Rattle.model.specs.Words.{Deceased}
+use Rattle.model.specs.Lamps.{lampsOf}
 use Rattle.model.specs.Node as M
 use Rattle.model.specs.Detector.{firstOver}
 use Rattle.model.specs.Sound.{sound}
@@ -38,6 +40,7 @@ use Rattle.node.specs.Rows.{loaded-view}
 use Rattle.wait.specs.declared.Wait.{Wait}
 use Rattle.wait.specs.Views.{freshWait, toWait}
 use Rattle.swim.specs.Contracts.{Creates, rowAfter}
+use Rattle.promises.specs.Panel.{Shows, shows-true}
 use Rattle.promises.specs.Replies.{done-apart}
 use Rattle.promises.specs.Made.{Held, Said, Accepted, Made}
 use Rattle.promises.specs.Runs.{Runs, rests, makes, world, seen, made-is, runs-is, stored-unstored}
@@ -155,6 +158,16 @@ module _ (settings : Settings) (own : Addr) (number tick : ℕ) (r : Answer) (me
   -- no number reported for a listed peer since its last entry is above the held one
   pub reported-held : M.lists here a (viewNode node) ≡ true → here .same own a ≡ false → ledger .top ≤ M.numbered here a (viewNode node)
   reported-held = rw (sym ends) (model.reported-held here here-lawful settings own number tick _ begins cs a)
+
+  -- "own address left out, true after every operation": whatever the panel reads of a node of the run are the counts of its list
+  pub lamps-true : (l : Lamps) → l ≡ node .members .lamps → Shows own (viewNode node .members .table) l
+  unfolding storedView
+  lamps-true l e =
+      shows-true own (viewNode node .members .table) l
+      (e
+      ∙ sym (λ i. replayed i .node .lamps)
+      ∙ model.lit here here-lawful settings own number tick _ begins cs a
+      ∙ ap (λ (s : M.Node Addr). lampsOf (here .same) own (s .members .table)) ends)
 
   -- every node of a run is sound, so refusal 2 never meets one
   pub stays-sound : sound here (storedView node) ≡ true

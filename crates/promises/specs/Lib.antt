@@ -14,4 +14,5 @@ pub mod Made
 pub mod Refused
 pub mod Runs
 pub mod Exists
+pub mod Panel
 pub mod Demand3

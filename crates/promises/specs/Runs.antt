@@ -43,6 +43,7 @@ stored-unstored s =
       order = s .order;
       listed = s .listed;
       position = s .position;
+      lamps = s .lamps;
       alive = record { places = to-from-entries (s .alive .places) i; used = s .alive .used };
       deceased = record { places = to-from-entries (s .deceased .places) i; used = s .deceased .used };
       timers = record { places = m i; used = s .timers .used };

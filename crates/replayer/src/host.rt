@@ -52,7 +52,8 @@ impl Host {
         if self.is_quiet {
             return self;
         }
-        let end = put_state(out, at, node, wait);
+        let lamps = swim::lookup::lamps(node);
+        let end = put_state(out, at, node, lamps, wait);
         self.unwritten = end;
         self
     }

@@ -84,5 +84,5 @@ abbrev pub stayed : Members → Kept
 stayed m = record { members = m; drew = Used 0 }
 
 -- the list after a verdict, of the draws from a place on; where it is refused the members are as they came
-abbrev pub listAfterOf : Members → M.Verdict Addr → List ℕ → ℕ → Kept
-listAfterOf m v draws from = keptAs m (length draws - from) (M.listAfter here v (viewMembers m) (drop from draws))
+abbrev pub listAfterOf : Addr → Members → M.Verdict Addr → List ℕ → ℕ → Kept
+listAfterOf own m v draws from = keptAs own m (length draws - from) (M.listAfter here v (viewMembers m) (drop from draws))

@@ -22,7 +22,7 @@ ghost use Rattle.model.specs.Members as list;
 ghost use Rattle.model.specs.Handler as handler;
 ghost use Rattle.types.specs.Views.{toEvent};
 ghost use Rattle.disseminate.specs.Views.{fromFound};
-ghost use Rattle.member.specs.Views.{viewMembers, packMembers, Held};
+ghost use Rattle.member.specs.Views.{viewMembers, packMembers, Held, Counted};
 ghost use Rattle.rules.specs.Views.{toFound, fromVerdict, toVerdict, fromNews, stayed, listAfterOf};
 
 // What an event comes to. Nothing happens: there is none, the address is unknown, a suspicion's number equals that of a peer that isn't Alive, or the number is not high enough.
@@ -246,21 +246,30 @@ fn kept(members: Members) -> Kept
 }
 
 // The record of a listed address is replaced.
-fn set(members: Members, addr: Address, state: State, number: u64) -> Kept
-    requires { ⌜ Held members ⌝ }
-    ensures { λ r. ⌜ r ≡ stayed (packMembers (list.update (here .same) (record { addr = addr; state = state; number = number }) (viewMembers members))) ⌝ }
+fn set(members: Members, own: Address, addr: Address, state: State, number: u64) -> Kept
+    requires { ⌜ Held members × Counted own members ⌝ }
+    ensures { λ r. ⌜ r ≡ stayed (packMembers own (list.update (here .same) (record { addr = addr; state = state; number = number }) (viewMembers members))) ⌝ }
 {
-    kept(members.update_member(Member {
-        addr,
-        state,
-        number,
-    }))
+    kept(members.update_member(
+        own,
+        Member {
+            addr,
+            state,
+            number,
+        },
+    ))
 }
 
 // The list after a verdict: refusals 6, 7 and 8.
-pub fn list_after(members: Members, verdict: Verdict, draws: &[u64], from: usize) -> Kept
-    requires { ⌜ Held members × (from ≤ length (now draws)) ⌝ }
-    ensures { λ r. ⌜ r ≡ listAfterOf members (toVerdict verdict) (now (draws .entry)) from ⌝ }
+pub fn list_after(
+    members: Members,
+    own: Address,
+    verdict: Verdict,
+    draws: &[u64],
+    from: usize,
+) -> Kept
+    requires { ⌜ Held members × Counted own members × (from ≤ length (now draws)) ⌝ }
+    ensures { λ r. ⌜ r ≡ listAfterOf own members (toVerdict verdict) (now (draws .entry)) from ⌝ }
 {
     match verdict {
         Verdict::Skip => kept(members),
@@ -272,11 +281,11 @@ pub fn list_after(members: Members, verdict: Verdict, draws: &[u64], from: usize
             drew: Drew::Refused(Refusal::NumberEnd),
         },
         Verdict::Refute(_) => kept(members),
-        Verdict::Enter { addr, number } => members.add_member(addr, number, draws, from),
-        Verdict::Raise { addr, number } => kept(members.raise_number(addr, number)),
-        Verdict::Recover { addr, number } => set(members, addr, State::Alive, number),
-        Verdict::Suspect { addr, number } => set(members, addr, State::Suspected, number),
-        Verdict::Bury { addr, number: _ } => kept(members.remove_member(addr)),
+        Verdict::Enter { addr, number } => members.add_member(own, addr, number, draws, from),
+        Verdict::Raise { addr, number } => kept(members.raise_number(own, addr, number)),
+        Verdict::Recover { addr, number } => set(members, own, addr, State::Alive, number),
+        Verdict::Suspect { addr, number } => set(members, own, addr, State::Suspected, number),
+        Verdict::Bury { addr, number: _ } => kept(members.remove_member(own, addr)),
     }
 }
 

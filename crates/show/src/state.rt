@@ -2,6 +2,7 @@
 use address::Address;
 use heap::Entry;
 use member::Member;
+use model::Lamps;
 use node::Node;
 use report::put_byte;
 use report::put_bytes;
@@ -138,6 +139,14 @@ fn put_list(out: &mut [u8], at: usize, node: Node) -> usize {
     put_members(out, position, table, row, least(members.len, 64))
 }
 
+fn put_lamps(out: &mut [u8], at: usize, lamps: Lamps) -> usize {
+    let letter = put_byte(out, at, b'l');
+    let alive = put_marked(out, letter, b' ', lamps.alive as u64);
+    let pending = put_marked(out, alive, b' ', lamps.pending as u64);
+    let suspected = put_marked(out, pending, b' ', lamps.suspected as u64);
+    put_byte(out, suspected, b'\n')
+}
+
 fn put_heaps(out: &mut [u8], at: usize, node: Node) -> usize {
     let disseminator = node.disseminator;
     let alive = disseminator.alive;
@@ -150,12 +159,13 @@ fn put_heaps(out: &mut [u8], at: usize, node: Node) -> usize {
     put_heap(out, cross, dead, least(deceased.len, 128))
 }
 
-// The five lines of a state.
-pub fn put_state(out: &mut [u8], at: usize, node: Node, wait: Wait) -> usize {
+// The six lines of a state; the lamps are what was read of it.
+pub fn put_state(out: &mut [u8], at: usize, node: Node, lamps: Lamps, wait: Wait) -> usize {
     let timers = node.timers;
     let running = timers.entries;
     let list = put_list(out, at, node);
-    let heaps = put_heaps(out, list, node);
+    let counts = put_lamps(out, list, lamps);
+    let heaps = put_heaps(out, counts, node);
     let letter = put_byte(out, heaps, b't');
     let third = put_timers(out, letter, running, least(timers.len, 16));
     put_wait(out, third, wait)

@@ -1,5 +1,7 @@
-// What a list says: of an address, of a place, and how many it lists. A lookup changes nothing, so it hands no node back.
+// What a list says: of an address, of a place, how many it lists, and how many in each state. A lookup changes nothing, so it hands no
+// node back.
 use address::Address;
+use model::Lamps;
 use model::Refusal;
 use model::State;
 use node::Node;
@@ -78,4 +80,13 @@ pub fn member_at(node: Node, place: usize) -> Lookup
         state,
         number: m.number,
     }
+}
+
+// How many peers are Alive, Pending and Suspected, the own address left out? The stored counts, untested, in constant time: of a node
+// that a call handed back they are those of its list, and of any other they are whatever it holds.
+pub fn lamps(node: Node) -> Lamps
+    ensures { λ r. ⌜ r ≡ node .members .lamps ⌝ }
+{
+    let lamps = node.members.lamps;
+    lamps
 }

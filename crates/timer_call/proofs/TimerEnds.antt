@@ -169,7 +169,7 @@ pub record Death : Type 0 where
   pub timers : Timers
   pub timers-is : timers ≡ packTimers (removeAt (timersView (node .timers)) place)
   pub members : Members
-  pub members-is : members ≡ packMembers (list.remove (here .same) (timerAt node place .addr) (viewMembers (node .members)))
+  pub members-is : members ≡ packMembers (node .own) (list.remove (here .same) (timerAt node place .addr) (viewMembers (node .members)))
   pub gossip : Gossip
   pub named : gossip .event ≡ Deceased (node .own) (timerAt node place .addr) (timerAt node place .number)
   pub pushed : Pushed

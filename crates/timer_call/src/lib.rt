@@ -91,7 +91,7 @@ fn remove_at(node: Node, place: usize) -> Ended
     let timer = entries[place];
     let after = timers.end(place);
     let members = node.members;
-    let left = members.remove_member(timer.addr);
+    let left = members.remove_member(node.own, timer.addr);
     let gossip = Gossip {
         event: Event::new_node_deceased(node.own, timer.addr, timer.number),
     };

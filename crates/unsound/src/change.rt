@@ -4,13 +4,16 @@
 //   n LENGTH POSITION        the list's length, and the position
 //   m PLACE ADDRESS STATE NUMBER        a member; state 0 Alive, 1 Pending, 2 Suspected
 //   p PLACE ADDRESS          a place of the probing order
+//   l ALIVE PENDING SUSPECTED           the lamps
 //   a PLACE KIND FROM SUBJECT NUMBER SENDS SIZE LENGTH      an entry of the alive heap, and its length
 //   x ..                     the same of the deceased heap
 //   t PLACE ADDRESS NUMBER TICK LENGTH  a timer, and how many run
 use crate::made::alive_at;
 use crate::made::deceased_at;
 use crate::made::entry;
+use crate::made::lamps;
 use crate::made::listed;
+use crate::made::lit;
 use crate::made::member;
 use crate::made::member_at;
 use crate::made::ordered;
@@ -60,6 +63,7 @@ pub fn changed(node: Node, s: &[u8]) -> Node {
         b'n' => listed(node, first, v[1] as usize),
         b'm' => member_at(node, first, member(v[1], v[2], v[3])),
         b'p' => ordered(node, first, v[1]),
+        b'l' => lamps(node, lit(v[0], v[1], v[2])),
         b'a' => changed_heap(node, letter, v),
         b'x' => changed_heap(node, letter, v),
         b't' => timer_at(node, first, timer(v[1], v[2], v[3]), v[4] as usize),

@@ -5,6 +5,7 @@ use heap::Entry;
 use heap::Heap;
 use member::Member;
 use member::Members;
+use model::Lamps;
 use model::Settings;
 use model::State;
 use node::Node;
@@ -84,6 +85,14 @@ pub fn timer(addr: Address, number: u64, since: u64) -> Timer {
     }
 }
 
+pub fn lit(alive: u64, pending: u64, suspected: u64) -> Lamps {
+    Lamps {
+        alive: alive as usize,
+        pending: pending as usize,
+        suspected: suspected as usize,
+    }
+}
+
 fn list() -> Members {
     let mut table = [Member::none(); 64];
     table[0] = member(1, 0, 0);
@@ -95,6 +104,7 @@ fn list() -> Members {
         table,
         len: 2,
         order: Order { row, position: 1 },
+        lamps: lit(1, 0, 0),
     }
 }
 
@@ -168,7 +178,13 @@ pub fn listed(mut node: Node, len: usize, position: usize) -> Node {
     let table = members.table;
     let mut order = members.order;
     order.position = position;
-    let changed = Members { table, len, order };
+    let lamps = members.lamps;
+    let changed = Members {
+        table,
+        len,
+        order,
+        lamps,
+    };
     node.members = changed;
     node
 }
@@ -180,10 +196,12 @@ pub fn member_at(mut node: Node, place: usize, member: Member) -> Node {
     if place < 64 {
         table[place] = member;
     }
+    let lamps = members.lamps;
     let changed = Members {
         table,
         len: members.len,
         order,
+        lamps,
     };
     node.members = changed;
     node
@@ -198,10 +216,26 @@ pub fn ordered(mut node: Node, place: usize, addr: Address) -> Node {
         row[place] = addr;
     }
     order.row = row;
+    let lamps = members.lamps;
     let changed = Members {
         table,
         len: members.len,
         order,
+        lamps,
+    };
+    node.members = changed;
+    node
+}
+
+pub fn lamps(mut node: Node, lamps: Lamps) -> Node {
+    let members = node.members;
+    let table = members.table;
+    let order = members.order;
+    let changed = Members {
+        table,
+        len: members.len,
+        order,
+        lamps,
     };
     node.members = changed;
     node

@@ -12,6 +12,7 @@ use lib.Dec.{eqb}
 use Rattle.model.specs.declared.Kind.the-variants as kind
 use Rattle.model.specs.declared.State.{State}
 use Rattle.model.specs.declared.State.the-variants as state
+use Rattle.model.specs.declared.Lamps.{Lamps}
 use Rattle.model.specs.Rows.{every, swap}
 use Rattle.laws.specs.Bools.{and-split}
 use Rattle.model.specs.Bounds.{last-number, message-room, step-room}
@@ -23,10 +24,11 @@ use Rattle.model.specs.Words.{Nothing, Joined, Deceased, Gossip, Entry, nothing
 use Rattle.model.specs.Heap.{climbIn, climb, lower, downIn, down, push, sinkTop, removeTop, allBelow}
 use Rattle.model.specs.Choose.{termsOf, wasNoted, takeTop, tryHeap, tryAlive, tryDeceased, over, rounds, choose, orElse, death}
 use Rattle.model.specs.Members.{Members, shuffle, advance, added, add, remove, update, seek, pickFrom}
+use Rattle.model.specs.Lamps.{lampsOf}
 use Rattle.model.specs.Node.{Node, Out, stored, loaded, withDisseminator, withTimers, quiet, andMore, pushed, emit, change, leave, spread}
 use Rattle.model.specs.Handler.{Enter, judgeSender, listAfter, newsOf, act, joinedAt, joined, recovered, believed, suspectedOther, suspected, deceased, item, gossip, causeAt, stopsAt, admit, answerTo, handle}
 use Rattle.model.specs.Detector.{Stepped, isOver, due, enters, pinged, sendPing, heard, waited, suspect, asked, pickGroup, sendPingReq, declare, fateOf, byFate, endAt}
-use Rattle.model.specs.Sound.{inRange, positioned, validGossip, soundEntry, soundHeap, soundMembers, soundTimers, sound}
+use Rattle.model.specs.Sound.{inRange, positioned, validGossip, soundEntry, soundHeap, soundRows, soundMembers, soundTimers, sound}
 use Rattle.model.specs.Calls.{packed, validAction, validState, addPeer, message, detect, endTimer}
 use Rattle.worked.specs.Cabinet.{own, B, C, host, says, member, members, node, withB, ruleOf}
 use Rattle.worked.specs.Seen.{sameNumbers, told-apart, told-equal}
@@ -158,8 +160,15 @@ abbrev ordersOwnTwice : Node ℕ
 ordersOwnTwice = node (members (withB state.Alive 0 .members .table) (own ∷ own ∷ []) 0) [] []
 
 -- what a test says of the list of a node
-abbrev ofList : (List (Member ℕ) → List ℕ → ℕ → ℕ → Bool) → Node ℕ → List ℕ
-ofList test s = let r = stored ipv4 s in look.ofTest (test (r .table) (r .order) (r .listed) (r .position))
+abbrev ofList : (ℕ → List (Member ℕ) → List ℕ → ℕ → ℕ → Lamps → Bool) → Node ℕ → List ℕ
+ofList test s = let r = stored ipv4 s in look.ofTest (test (r .own) (r .table) (r .order) (r .listed) (r .position) (r .lamps))
+
+-- and of the same list with other lamps
+abbrev ofLit : (ℕ → List (Member ℕ) → List ℕ → ℕ → ℕ → Lamps → Bool) → Node ℕ → Lamps → List ℕ
+ofLit test s lamps = let r = stored ipv4 s in look.ofTest (test (r .own) (r .table) (r .order) (r .listed) (r .position) lamps)
+
+abbrev lit : ℕ → ℕ → ℕ → Lamps
+lit alive pending suspected = record { alive = alive; pending = pending; suspected = suspected }
 
 abbrev ofRule : (Node ℕ → List ℕ → Answer (Out ℕ)) → Node ℕ → List ℕ → List ℕ
 ofRule rule s ds = look.ofAnswer look.ofOut (rule s ds)
@@ -198,6 +207,11 @@ wrongs =
     -- soundness
     ∷ (wrong.orderOnlyCounted is-not soundMembers ipv4 seen ofList at ordersOwnTwice yet-at withB state.Alive 0)
     ∷ (wrong.emptiedListRefused is-not soundMembers ipv4 seen ofList at emptied yet-at alone)
+    ∷ (wrong.onlyTheSum is-not soundMembers ipv4 seen (λ p l. ofLit p (withB state.Pending 4) l) at lit 1 0 0 yet-at lit 0 1 0)
+    ∷ (wrong.onlyTheSum is-not soundMembers ipv4 seen (λ p l. ofLit p (withB state.Pending 4) l) at lit 0 0 1 yet-at lit 0 1 1)
+    -- the lamps
+    ∷ (wrong.ownCounted is-not lampsOf eqb seen (λ p a. look.ofLamps (p a (withB state.Suspected 4 .members .table))) at own yet-at C)
+    ∷ (wrong.pendingLitAlive is-not lampsOf eqb seen (λ p st. look.ofLamps (p own (withB st 4 .members .table))) at state.Pending yet-at state.Suspected)
     ∷ (wrong.anySizeInBounds is-not soundEntry ipv4
     seen (λ p size. look.ofTest (p kind.Alive (record { gossip = x; sends = 0; size = size }))) at 33 yet-at 32)
     ∷ (wrong.sent22Refused is-not soundEntry ipv4 seen (λ p n. look.ofTest (p kind.Alive (sent n x))) at 22 yet-at 21)
@@ -270,10 +284,10 @@ all-told (w ∷ ws) e = let p = and-split (told w) (allTold ws) e in both w (p .
         (told-apart (run program far) (run rule far) (p .0), told-equal (run program near) (run rule near) (p .1))
 
 pub differ : All wrongs
-unfolding when swap leastFrom leastPower limitOf varintFrom varintLength numberSize sizeOver sizeOf digits textLength partsOf sameGossip climbIn climb lower downIn down push sinkTop removeTop allBelow termsOf wasNoted takeTop tryHeap tryAlive tryDeceased over rounds choose orElse death shuffle advance added add remove update seek pickFrom stored loaded quiet andMore pushed emit change leave spread joinedAt joined recovered believed suspectedOther suspected deceased judgeSender listAfter newsOf act item causeAt stopsAt admit answerTo handle isOver due pinged sendPing heard waited suspect asked pickGroup sendPingReq declare fateOf byFate endAt inRange positioned validGossip soundEntry soundHeap soundMembers soundTimers sound validAction validState addPeer message detect endTimer
+unfolding when swap leastFrom leastPower limitOf varintFrom varintLength numberSize sizeOver sizeOf digits textLength partsOf sameGossip climbIn climb lower downIn down push sinkTop removeTop allBelow termsOf wasNoted takeTop tryHeap tryAlive tryDeceased over rounds choose orElse death shuffle advance added add remove update seek pickFrom stored loaded quiet andMore pushed emit change leave spread joinedAt joined recovered believed suspectedOther suspected deceased judgeSender listAfter newsOf act item causeAt stopsAt admit answerTo handle isOver due pinged sendPing heard waited suspect asked pickGroup sendPingReq declare fateOf byFate endAt inRange positioned validGossip soundEntry soundHeap soundRows soundMembers soundTimers sound lampsOf validAction validState addPeer message detect endTimer
 differ = all-told wrongs refl
 
 -- and each contract admits these inputs, since each node is sound
 pub inputs-sound : every (λ s. sound ipv4 (stored ipv4 s)) inputs ≡ true
-unfolding varintFrom varintLength numberSize sizeOver sizeOf digits textLength partsOf allBelow stored inRange positioned validGossip soundEntry soundHeap soundMembers soundTimers sound
+unfolding varintFrom varintLength numberSize sizeOver sizeOf digits textLength partsOf allBelow stored inRange positioned validGossip soundEntry soundHeap soundRows soundMembers soundTimers sound lampsOf
 inputs-sound = refl

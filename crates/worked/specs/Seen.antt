@@ -12,6 +12,7 @@ use borrow.Author.Tests.{eq-eqb, eqb-true}
 use Rattle.model.specs.declared.State.{State}
 use Rattle.model.specs.declared.State.the-variants.{Alive, Pending}
 use Rattle.model.specs.declared.State.the-variants as state
+use Rattle.model.specs.declared.Lamps.{Lamps}
 use Rattle.model.specs.declared.Reply.{Reply}
 use Rattle.model.specs.declared.Cause.{Cause}
 use Rattle.model.specs.declared.Cause.the-variants.{Record, Sender}
@@ -128,6 +129,9 @@ ofWait w = w .since ∷ ofState (w .state)
 
 abbrev pub ofStepped : Stepped ℕ → List ℕ
 ofStepped s = ofWait (s .wait) ++ ofEffect (s .effect)
+
+abbrev pub ofLamps : Lamps → List ℕ
+ofLamps l = l .alive ∷ l .pending ∷ l .suspected ∷ []
 
 abbrev pub ofTerms : Terms → List ℕ
 ofTerms t = t .alive-share ∷ t .deceased-share ∷ t .max-size ∷ t .limit ∷ []

@@ -11,6 +11,7 @@ use Rattle.model.specs.declared.Kind.{Kind}
 use Rattle.model.specs.declared.Kind.the-variants as kind
 use Rattle.model.specs.declared.State.{State}
 use Rattle.model.specs.declared.State.the-variants as state
+use Rattle.model.specs.declared.Lamps.{Lamps}
 use Rattle.model.specs.declared.Cause.{Cause}
 use Rattle.model.specs.declared.Cause.the-variants.{Record, Sender}
 use Rattle.model.specs.declared.Refusal.the-variants.{Unsound, ShortRow, ManyRecords, AddressRange, NumberEnd, ListFull, AliveFull, TimersFull, DeceasedFull}
@@ -23,6 +24,7 @@ use Rattle.model.specs.Words.{Event, Nothing, nothing, Joined, Recovered, Suspe
 use Rattle.model.specs.Heap.{parent, sink}
 use Rattle.model.specs.Choose.{Terms, Choice, choose, deathIn}
 use Rattle.model.specs.Members as list
+use Rattle.model.specs.Lamps.{countOf, lampsOf, sameLamps}
 use Rattle.model.specs.Node.{Node, Out, Effect, Stored, loaded, withMembers, withTimers, quiet, andMore, plusOne, deathPlusOne, emit, lists, numbered, stateOf, heldDeath, change, leave}
 use Rattle.model.specs.Handler.{Enter, joinedAt, suspectedOther, act, item, gossip, through, stopsAt, admit, ackTarget, answerTo, handle}
 use Rattle.model.specs.Detector.{Stepped, due, step, enters, moves, pinged, pickGroup, suspect, asked, firstOver, timerAt, freed, endAt}
@@ -149,11 +151,22 @@ abbrev pub drawnBeforeRoom : ℕ → ℕ → list.Members ℕ → List ℕ → A
 drawnBeforeRoom a n m ds =
     draw ds λ d rest. when (leb list-places (length (m .table))) (refused ListFull) (done (list.added eqb a n d m) rest)
 
+-- The lamps.
+
+-- the own address is counted
+abbrev pub ownCounted : ℕ → List (Member ℕ) → Lamps
+ownCounted own t = lampsOf (λ a b. false) own t
+
+-- Pending is counted as Alive
+abbrev pub pendingLitAlive : ℕ → List (Member ℕ) → Lamps
+pendingLitAlive own t =
+    record { alive = countOf eqb state.Alive own t + countOf eqb state.Pending own t; pending = 0; suspected = countOf eqb state.Suspected own t }
+
 -- Soundness.
 
 -- of the order only the length is tested
-abbrev pub orderOnlyCounted : List (Member ℕ) → List ℕ → ℕ → ℕ → Bool
-orderOnlyCounted table order n position =
+abbrev pub orderOnlyCounted : ℕ → List (Member ℕ) → List ℕ → ℕ → ℕ → Lamps → Bool
+orderOnlyCounted own table order n position lamps =
     leb n list-places
     && distinct eqb (list.addrs (take n table))
     && eqb (length (take n order)) (length (take n table))
@@ -161,10 +174,11 @@ orderOnlyCounted table order n position =
     && every (ipv4 .valid) (list.addrs (take n table))
     && every (isNoMember ipv4) (drop n table)
     && every (λ a. eqb a 0) (drop n order)
+    && sameLamps lamps (lampsOf eqb own (take n table))
 
 -- a position below the length is asked of an empty list too
-abbrev pub emptiedListRefused : List (Member ℕ) → List ℕ → ℕ → ℕ → Bool
-emptiedListRefused table order n position =
+abbrev pub emptiedListRefused : ℕ → List (Member ℕ) → List ℕ → ℕ → ℕ → Lamps → Bool
+emptiedListRefused own table order n position lamps =
     leb n list-places
     && distinct eqb (list.addrs (take n table))
     && permutes eqb (take n order) (list.addrs (take n table))
@@ -172,6 +186,20 @@ emptiedListRefused table order n position =
     && every (ipv4 .valid) (list.addrs (take n table))
     && every (isNoMember ipv4) (drop n table)
     && every (λ a. eqb a 0) (drop n order)
+    && sameLamps lamps (lampsOf eqb own (take n table))
+
+-- of the lamps only their sum is compared
+abbrev pub onlyTheSum : ℕ → List (Member ℕ) → List ℕ → ℕ → ℕ → Lamps → Bool
+onlyTheSum own table order n position lamps =
+    let l = lampsOf eqb own (take n table) in
+    leb n list-places
+    && distinct eqb (list.addrs (take n table))
+    && permutes eqb (take n order) (list.addrs (take n table))
+    && positioned position n
+    && every (ipv4 .valid) (list.addrs (take n table))
+    && every (isNoMember ipv4) (drop n table)
+    && every (λ a. eqb a 0) (drop n order)
+    && eqb (lamps .alive + lamps .pending + lamps .suspected) (l .alive + l .pending + l .suspected)
 
 -- any size from 24 to 59 passes
 abbrev pub anySizeInBounds : Kind → Entry ℕ → Bool

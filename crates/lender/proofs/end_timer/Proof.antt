@@ -47,7 +47,6 @@ use Rattle.node.specs.declared.Node.{Node}
 use Rattle.node.proofs.Node as N
 use Rattle.node.proofs.Node.Laws as N′
 use Rattle.node.proofs.Answer as R
-use Rattle.node.proofs.Answer.Laws as R′
 use Rattle.swim.specs.declared.Outcome.{Outcome}
 use Rattle.swim.specs.Contracts.{EndsTimer}
 use Rattle.swim.proofs.Outcome as O
@@ -56,6 +55,7 @@ use Rattle.swim.proofs.end_timer as thin
 use Rattle.swim.proofs.end_timer.Symbol as thin-def
 use Rattle.swim.proofs.end_timer.Symbol.{name as #thin}
 use Rattle.swim.proofs.end_timer.Met as thin-thm
+use Rattle.lent.proofs.Writing.{fieldTy}
 use Rattle.lender.proofs.Values.{gvals, nval, aval, oval, refTy, onTy, in-reported, in-answer}
 use Rattle.lender.proofs.Lending.{behind, kept, lend-first, come-back, one-value, take-front, drop-front, in-field, lent-long, arr-typed, rows-tell}
 use Rattle.lender.specs.declared.Ended.{Ended}
@@ -154,7 +154,7 @@ module _ {M : Type 1} (𝓤 : URA M) (H : Heap 𝓤) (A : Atoms 𝓤) (W : Given
       answers l h isw =
           assigns ! (of-opd ! (load ! (from ! (stop !)) (look ! 0 refl))) (from ! (stop !)) (init ! 1 refl (arr-typed 𝓤 H A W 1 (ws ++ drop k es) isw .0)) $
           rewrite ! 1 (λ (v : Val). ‵ (fat fullShare (tyArray T′.mir 1) l₉ 0 v)) (one-value (ws ++ drop k es)) refl $
-          assigns ! (agg ! (and-then ! (load ! (from ! (fld ! {τ = tyInt w64} {d = 0} refl (stop !))) (look-in ! 7 (in-reported 𝓤 H A W l₆ r))) (and-then ! (load ! (from ! (stop !)) (look ! 1 refl)) (and-then ! (load ! (from ! (fld ! {τ = R′.mir} {d = 8} refl (stop !))) (look-in ! 7 (in-answer 𝓤 H A W l₆ r))) (no-more !)))))
+          assigns ! (agg ! (and-then ! (load ! (from ! (fld ! {τ = tyInt w64} {d = 0} refl (stop !))) (look-in ! 7 (in-reported 𝓤 H A W l₆ r))) (and-then ! (load ! (from ! (stop !)) (look ! 1 refl)) (and-then ! (load ! (from ! (fld ! {τ = fieldTy O′.mir 1} {d = 8} refl (stop !))) (look-in ! 7 (in-answer 𝓤 H A W l₆ r))) (no-more !)))))
           (from ! (stop !)) (init ! 18 refl (LL.lawful E.the-type E′.the-laws 𝓤 H A W .typed (ans r ws) _ (ans-is r u iso ws isw) .0)) $
           returns ! (look ! 18 refl) $ forget ! 0 refl $ forget ! 1 refl $ forget ! 3 refl $ forget ! 5 refl $ forget ! 7 refl $ forget ! 10 refl $ forget ! 12 refl $ forget ! 14 refl $ forget ! 16 refl $ forget ! 18 refl $
           move ! (18 ∷ 19 ∷ []) $ free1 ! $ move ! (16 ∷ 17 ∷ []) $ free1 ! $ move ! (14 ∷ 15 ∷ []) $ free1 ! $ move ! (12 ∷ 13 ∷ []) $ free1 ! $ move ! (10 ∷ 11 ∷ []) $ free1 ! $ move ! (0 ∷ 9 ∷ []) $ free1 ! $

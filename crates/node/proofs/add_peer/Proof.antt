@@ -62,12 +62,12 @@ returns-3 c =
     c .plain .ensures ∙ add-already (a .node) (a .a) (a .number) (a .draws .now) (sound-there e) (valid-there f) (sym (t .before .lists .ensures) ∙ t .if3 .taken)
 
 -- all draws are there yet
-added : (n : Node) (a : Addr) (number : ℕ) (draws : List ℕ) (k : Kept) → k ≡ addedOf (n .members) a number draws 0 → k ≡ keptAs (n .members) (length draws) (list.add (here .same) a number (viewNode n .members) draws)
+added : (n : Node) (a : Addr) (number : ℕ) (draws : List ℕ) (k : Kept) → k ≡ addedOf (n .own) (n .members) a number draws 0 → k ≡ keptAs (n .own) (n .members) (length draws) (list.add (here .same) a number (viewNode n .members) draws)
 unfolding viewNode
-added n a number draws k e = e ∙ ap (λ (m : ℕ). keptAs (n .members) m (list.add (here .same) a number (viewNode n .members) draws)) (omega arith)
+added n a number draws k e = e ∙ ap (λ (m : ℕ). keptAs (n .own) (n .members) m (list.add (here .same) a number (viewNode n .members) draws)) (omega arith)
 
 add-member-requires : tie.Need-add-member-requires
-add-member-requires c κs = (ready-there (c .before .before .before .before .before) .members, omega arith)
+add-member-requires c κs = let r = ready-there (c .before .before .before .before .before) in (r .members, r .lamps, omega arith)
 
 returns-4 : tie.Need-returns-4
 returns-4 c =

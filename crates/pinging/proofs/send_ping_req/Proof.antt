@@ -8,7 +8,7 @@ use Rattle.types.specs.Views.{toGossip}
 use Rattle.disseminate.specs.declared.Grown.{Grown}
 use Rattle.disseminate.proofs.Pushing.{alive-pushed}
 use Rattle.wait.specs.Ends.{plain-gives}
-use Rattle.pinging.proofs.Requests.{Request, request-full, said-held, wanted-few, request-refused, request-ready, request-few, request-kept}
+use Rattle.pinging.proofs.Requests.{Request, request-full, said-ready, wanted-few, request-refused, request-ready, request-few, request-kept}
 use Rattle.pinging.proofs.send_ping_req.Statement.{statement}
 use Rattle.pinging.proofs.send_ping_req.Tie as tie
 
@@ -42,7 +42,8 @@ returns c = plain-gives (c .plain .ensures) (request-full (request (c .before .b
 get-member-list-requires : tie.Need-get-member-list-requires
 get-member-list-requires c κs =
     let q = request (c .before .before) in
-    (said-held q (c .before .if1 .left), wanted-few q (c .before .if1 .left), omega arith)
+    let r = said-ready q (c .before .if1 .left) in
+    (r .members, r .lamps, wanted-few q (c .before .if1 .left), omega arith)
 
 ask-group-requires : tie.Need-ask-group-requires
 ask-group-requires c κs =

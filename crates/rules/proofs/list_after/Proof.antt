@@ -20,16 +20,16 @@ use Rattle.rules.proofs.list_after.Tie as tie
 
 -- the list after each verdict
 abbrev after : tie.Start → Verdict → Kept
-after s v = listAfterOf (s .args .members) (toVerdict v) (s .args .draws .now) (s .args .from)
+after s v = listAfterOf (s .args .own) (s .args .members) (toVerdict v) (s .args .draws .now) (s .args .from)
 
 -- a list that no draw was needed for
-changes : (s : tie.Start) (l : Members Addr) → stayed (packMembers l) ≡ keptAs (s .args .members) (length (s .args .draws .now) - s .args .from) (done l (drop (s .args .from) (s .args .draws .now)))
+changes : (s : tie.Start) (l : Members Addr) → stayed (packMembers (s .args .own) l) ≡ keptAs (s .args .own) (s .args .members) (length (s .args .draws .now) - s .args .from) (done l (drop (s .args .from) (s .args .draws .now)))
 changes s l =
     let e : 0 ≡ length (s .args .draws .now) - s .args .from - length (drop (s .args .from) (s .args .draws .now)) = omega (arith, length-drop (s .args .from) (s .args .draws .now)) in
-    λ i. record { members = packMembers l; drew = Used (e i) }
+    λ i. record { members = packMembers (s .args .own) l; drew = Used (e i) }
 
-stays : (s : tie.Start) → stayed (s .args .members) ≡ keptAs (s .args .members) (length (s .args .draws .now) - s .args .from) (done (viewMembers (s .args .members)) (drop (s .args .from) (s .args .draws .now)))
-stays s = ap stayed (sym (pack-view (s .args .members) (s .pre .0 .packed))) ∙ changes s (viewMembers (s .args .members))
+stays : (s : tie.Start) → stayed (s .args .members) ≡ keptAs (s .args .own) (s .args .members) (length (s .args .draws .now) - s .args .from) (done (viewMembers (s .args .members)) (drop (s .args .from) (s .args .draws .now)))
+stays s = ap stayed (sym (pack-view (s .args .own) (s .args .members) (s .pre .0 .packed) (s .pre .1))) ∙ changes s (viewMembers (s .args .members))
 
 returns : tie.Need-returns
 unfolding M.listAfter

@@ -8,7 +8,7 @@ use super::bench::Bench;
 use super::domain::{self, Outside, Trace};
 use super::overflow;
 use super::script::{Call, Creation, Rows, Settings};
-use super::words::{Address, Entry, Member, Phase, Record, Sent, Timer, Wait};
+use super::words::{Address, Entry, Member, MemberState, Phase, Record, Sent, Timer, Wait};
 
 #[derive(Clone, Copy, Debug, PartialEq, Eq)]
 pub enum Verdict {
@@ -48,11 +48,34 @@ impl Outcome {
     }
 }
 
+/// How many peers are in each state, counted from the published code's own list with the own address left out.
+#[derive(Clone, Copy, Debug, PartialEq, Eq)]
+pub struct Lamps {
+    pub alive: usize,
+    pub pending: usize,
+    pub suspected: usize,
+}
+
+impl Lamps {
+    fn of(members: &[Member], own: Address) -> Self {
+        let lit = |state| {
+            let peers = members.iter().filter(|member| member.address != own);
+            peers.filter(|peer| peer.state == state).count()
+        };
+        Self {
+            alive: lit(MemberState::Alive),
+            pending: lit(MemberState::Pending),
+            suspected: lit(MemberState::Suspected),
+        }
+    }
+}
+
 /// The whole state after a call.
 #[derive(Clone, Debug, PartialEq, Eq)]
 pub struct State {
     pub position: usize,
     pub members: Vec<Member>,
+    pub lamps: Lamps,
     pub alive: Vec<Entry>,
     pub deceased: Vec<Entry>,
     pub timers: Vec<Timer>,
@@ -97,6 +120,7 @@ impl Host {
         let (position, members) = self.bench.members();
         State {
             position,
+            lamps: Lamps::of(&members, self.own),
             members,
             alive: self.bench.alive(),
             deceased: self.bench.deceased(),

@@ -41,6 +41,12 @@ pub fn writing(out: &mut impl Write, writing: &Writing) -> io::Result<()> {
 
 pub fn state(out: &mut impl Write, state: &State) -> io::Result<()> {
     row(out, &format!("@ {}", state.position), &state.members)?;
+    let lamps = state.lamps;
+    writeln!(
+        out,
+        "l {} {} {}",
+        lamps.alive, lamps.pending, lamps.suspected
+    )?;
     row(out, "+", &state.alive)?;
     row(out, "x", &state.deceased)?;
     row(out, "t", &state.timers)?;

@@ -32,7 +32,7 @@ fn lines_without_a_node_and_lines_not_of_the_form() {
 
 #[test]
 fn a_fresh_node() {
-    let expected = "= ok 0\n@ 0 1:a:0\n+\nx\nt\nw ping 0\n";
+    let expected = "= ok 0\n@ 0 1:a:0\nl 0 0 0\n+\nx\nt\nw ping 0\n";
     assert_eq!(answers(NEW, false), expected);
 }
 
@@ -68,6 +68,18 @@ fn suspected_at_the_held_number_of_a_pending_peer_is_nothing() {
     assert_eq!(last_state(&same, '@'), "@ 1 2:p:4 1:a:0");
     let greater = format!("{pending}ack 3 - s:3:2:5 |");
     assert_eq!(last_state(&greater, '@'), "@ 1 2:s:5 1:a:0");
+}
+
+#[test]
+fn lamps_count_the_peers_alone() {
+    let peers = "add 2 4 | 0\nadd 3 0 | 0\n";
+    assert_eq!(last_state(peers, 'l'), "l 2 0 0");
+    let pending = format!("{peers}step 10 |\n");
+    assert_eq!(last_state(&pending, 'l'), "l 1 1 0");
+    let suspected = format!("{pending}ack 9 - s:9:2:5 s:9:3:5 |\n");
+    assert_eq!(last_state(&suspected, 'l'), "l 0 0 2");
+    let without_own = format!("{suspected}ack 9 - d:9:1:0 d:9:3:5 |");
+    assert_eq!(last_state(&without_own, 'l'), "l 0 0 1");
 }
 
 #[test]

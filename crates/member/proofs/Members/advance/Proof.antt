@@ -11,9 +11,10 @@ advance-requires c κs =
 
 returns : tie.Need-returns
 returns c =
-    let s = c .before .before .before .before in
+    let t = c .before .before .before in
+    let s = t .before .before in
     let a = s .args in
-    advanced-is (a .self) (s .pre .0) (a .draws .now) (a .from) (c .before .before .advance .result) (s .pre .1) (c .before .before .advance .ensures)
+    advanced-is (a .self) (s .pre .0) (a .draws .now) (a .from) (t .advance .result) (s .pre .1) (t .advance .ensures)
 
 pub advance-spec : {M : Type 1} → statement M
 advance-spec =

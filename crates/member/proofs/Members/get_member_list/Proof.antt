@@ -7,14 +7,14 @@ use Rattle.member.proofs.Members.get_member_list.Tie as tie
 pick-requires : tie.Need-pick-requires
 pick-requires c κs =
     let s = c .before in
-    (order-ready (s .args .self) (s .pre .0), s .pre .1, s .pre .2)
+    (order-ready (s .args .self) (s .pre .0), s .pre .2, s .pre .3)
 
 returns : tie.Need-returns
 returns c =
-    let s = c .before .before .before .before .before in
+    let p = c .before .before .before .before in
+    let s = p .before .before in
     let a = s .args in
-    picked-is (a .self) (s .pre .0) (a .own) (a .exclusion) (a .wanted) (a .draws .now) (a .from)
-    (c .before .before .before .pick .result) (c .before .before .before .pick .ensures .0)
+    picked-is (a .self) (s .pre .0) (a .own) (s .pre .1) (a .exclusion) (a .wanted) (a .draws .now) (a .from) (p .pick .result) (p .pick .ensures .0)
 
 pub get-member-list-spec : {M : Type 1} → statement M
 get-member-list-spec =

@@ -1,12 +1,15 @@
 -- `member::Members::remove_member` meets its contract: both rows close up, and the position goes by the new length.
 -- Assumes nothing.
-use mathlib.Core.Path.{_≡_, ap}
+use mathlib.Core.Path.{_≡_, ap, _∙_}
 use native.Mathlib.Omega.{arith}
-use Prim.Native.Nat.{_<_}
+use Prim.Native.Nat.{_-_, _<_}
+use Rattle.address.specs.Here.{here}
+use Rattle.model.specs.declared.Lamps.{Lamps}
+use Rattle.laws_list.specs.Counting.{lightOf}
 use Rattle.member.specs.declared.Standing.{Standing}
 use Rattle.member.specs.Views.{standingOf}
 use Rattle.member.specs.Packing.{table-long, order-long}
-use Rattle.member.proofs.Changing.{order-place, removed-none, removed}
+use Rattle.member.proofs.Changing.{held-counted, order-place, removed-none, removed}
 use borrow.Author.Needs.{needs}
 use Rattle.member.proofs.Members.remove_member.Statement.{statement}
 use Rattle.member.proofs.Members.remove_member.Tie as tie
@@ -21,18 +24,19 @@ used c = omega (arith, c .if1 .left, c .before .before .find .ensures .1)
 returns : tie.Need-returns
 returns c =
     let f = c .before .before in
-    removed-none (f .before .args .self) (f .before .pre) (f .before .args .a) (f .find .result .place) (at f) (c .if1 .taken)
+    let s = f .before in
+    removed-none (s .args .own) (s .args .self) (s .pre .0) (s .pre .1) (s .args .a) (f .find .result .place) (at f) (c .if1 .taken)
 
 find-place-requires : tie.Need-find-place-requires
 find-place-requires c κs =
     let s = c .before .before .before .before .before .before .before in
-    (s .pre .packed .few, order-long (s .args .self) (s .pre .packed))
+    (s .pre .0 .packed .few, order-long (s .args .self) (s .pre .0 .packed))
 
 close-up-requires : tie.Need-close-up-requires
 close-up-requires c κs =
     let e = c .before .before .before .before .before in
     let s = e .before .before .before in
-    (s .pre .packed .few, used e, table-long (s .args .self) (s .pre .packed))
+    (s .pre .0 .packed .few, used e, table-long (s .args .self) (s .pre .0 .packed))
 
 remove-requires : tie.Need-remove-requires
 remove-requires c κs =
@@ -40,17 +44,39 @@ remove-requires c κs =
     let e = p .before .before .before .before .before in
     let f = e .before .before in
     let s = f .before in
-    (s .pre .packed .few, order-place (s .args .self) (s .pre) (s .args .a) (f .find .result .place) (at f) (p .find-place .result) (p .find-place .ensures .0) (used e))
+    (s .pre .0 .packed .few, order-place (s .args .own) (s .args .self) (s .pre .0) (s .pre .1) (s .args .a) (f .find .result .place) (at f) (p .find-place .result) (p .find-place .ensures .0) (used e))
+
+-- where its place was tested, before its lamp
+abbrev tested : tie.After-light → tie.Else1
+tested c = c .before .before .before .before .before .before .before .before .before
+
+-- the lamp of what was held
+was-held : (c : tie.After-light)
+    → c .light .result
+    ≡ lightOf (here .same) (tested c .before .before .before .args .own) (tested c .before .before .before .args .a)
+    (standingOf (tested c .before .before .before .args .self) (tested c .before .before .before .args .a) .state)
+was-held c =
+    let f = tested c .before .before in
+    c .light .ensures ∙ ap (λ (x : Standing). lightOf (here .same) (f .before .args .own) (f .before .args .a) (x .state)) (f .find .ensures .0)
+
+minus-requires : tie.Need-minus-requires
+minus-requires c κs =
+    let f = tested c .before .before in
+    let s = f .before in
+    held-counted (s .args .self) (s .pre .0 .packed) (s .args .a) (f .find .result .place) (at f) (used (tested c)) (s .args .own) (c .light .result) (s .pre .1) (was-held c)
 
 returns-2 : tie.Need-returns-2
 returns-2 c =
-    let p = c .before .before .before in
+    let l = c .before in
+    let w = l .before in
+    let p = w .before .before .before in
     let e = p .before .before .before .before .before in
     let f = e .before .before in
     let s = f .before in
-    removed (s .args .self) (s .pre) (s .args .a) (f .find .result .place) (at f) (p .find-place .result) (c .position-after .result)
-    (c .before .before .close-up .result) (c .before .remove .result) (used e) (p .find-place .ensures .0) (c .before .before .close-up .ensures) (c .before .remove .ensures)
-    (c .position-after .ensures)
+    ap (λ (x : Lamps). record { table = w .before .before .close-up .result; len = s .args .self .len - 1; order = record { row = w .before .remove .result; position = w .position-after .result }; lamps = x }) (c .minus .ensures)
+    ∙ removed (s .args .own) (s .args .self) (s .pre .0) (s .pre .1) (s .args .a) (f .find .result .place) (at f) (p .find-place .result) (w .position-after .result)
+    (w .before .before .close-up .result) (w .before .remove .result) (l .light .result) (used e) (p .find-place .ensures .0) (w .before .before .close-up .ensures) (w .before .remove .ensures)
+    (w .position-after .ensures) (was-held l)
 
 pub remove-member-spec : {M : Type 1} → statement M
 remove-member-spec =
@@ -64,4 +90,6 @@ remove-member-spec =
     remove-requires
     (λ c. search needs)
     (λ c κs. search needs)
+    (λ c κs. search needs)
+    minus-requires
     returns-2)

@@ -5,7 +5,7 @@ use Rattle.member.proofs.Members.update_member.Statement.{statement}
 use Rattle.member.proofs.Members.update_member.Tie as tie
 
 put-requires : tie.Need-put-requires
-put-requires c κs = (c .before .pre, c .find .ensures .0, c .find .ensures .1)
+put-requires c κs = (c .before .pre .0, c .before .pre .1, c .find .ensures .0, c .find .ensures .1)
 
 pub update-member-spec : {M : Type 1} → statement M
 update-member-spec = tie.close (tie.spec (λ c κs. search needs) put-requires (λ c. search needs))

@@ -117,11 +117,11 @@ due v =
 is-verdict : (v : tie.After-verdict-at Inv-loop μ-loop) → toVerdict (v .verdict-at .result) ≡ verdict v
 is-verdict v = ap toVerdict (v .verdict-at .ensures) ∙ to-from-verdict (verdict v)
 
-is-list : (l : tie.After-list-after Inv-loop μ-loop) → let v = l .before in let at = v .before .before .before .loop in l .list-after .result ≡ listAfterOf (at .members) (verdict v) (start v .args .draws .now) (at .used)
+is-list : (l : tie.After-list-after Inv-loop μ-loop) → let v = l .before in let at = v .before .before .before .loop in l .list-after .result ≡ listAfterOf (start v .args .node .own) (at .members) (verdict v) (start v .args .draws .now) (at .used)
 is-list l =
     let v = l .before in
     let at = v .before .before .before .loop in
-    l .list-after .ensures ∙ ap (λ (x : handler.Verdict Addr). listAfterOf (at .members) x (start v .args .draws .now) (at .used)) (is-verdict v)
+    l .list-after .ensures ∙ ap (λ (x : handler.Verdict Addr). listAfterOf (start v .args .node .own) (at .members) x (start v .args .draws .now) (at .used)) (is-verdict v)
 
 is-news : (w : tie.After-news-of Inv-loop μ-loop) → let v = w .before .before .before .before .before in toNews (w .news-of .result) ≡ handler.newsOf here (verdict v) (start v .args .node .own)
 is-news w =
@@ -246,7 +246,7 @@ handle-gossip-spec =
     (λ c κs. search needs)
     loop-holds
     verdict-at-requires
-    (λ c κs. let at = c .before .before .before .loop in (at .inv .3 .ready .members, at .inv .3 .within))
+    (λ c κs. let at = c .before .before .before .loop in (at .inv .3 .ready .members, at .inv .3 .ready .lamps, at .inv .3 .within))
     (λ c. search needs)
     add-used
     (λ c. search needs)
