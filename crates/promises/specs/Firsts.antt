@@ -43,7 +43,7 @@ first-same (fails p q) (passes p′ f′) = both p p′
 first-same (passes p f) (fails p′ q′) = both p′ p
 first-same (passes p f) (passes p′ f′) = first-same f f′
 
-first-or-passed : {C : Type 0} {x : Refusal} {ts : List (Bool × Refusal)} → FirstFails x ts → Passed ts → C
+pub first-or-passed : {C : Type 0} {x : Refusal} {ts : List (Bool × Refusal)} → FirstFails x ts → Passed ts → C
 first-or-passed (fails p q) h = both p (h .0)
 first-or-passed (passes p f) h = first-or-passed f (h .1)
 

@@ -137,7 +137,7 @@ module _ {A : Type 0} (address : Address A) where
   judged-refuses _ _ s ds (deceased-low {a = a} {n = n} l h) = rw (l, lt-leb (numbered address a s) n h) (quiet-stops s ds)
   judged-refuses _ _ s ds (deceased-buries {a = a} {n = n} l h) = rw (l, le-leb (numbered address a s) n h) (push-stops none kind.Deceased _ s _ ds refl refl)
 
-  item-refuses : (e : Event A) (s : Node A) (ds : List ℕ) → Refuses (itemStops address e s ds) (handler.item address e s ds)
+  pub item-refuses : (e : Event A) (s : Node A) (ds : List ℕ) → Refuses (itemStops address e s ds) (handler.item address e s ds)
   unfolding handler.item
   item-refuses e s ds = judged-refuses e _ s ds (judged address (s .own) (s .members .table) (heldDeath address (partsOf address e .subject) s) e)
 

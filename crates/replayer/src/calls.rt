@@ -8,6 +8,7 @@ use report::put_reply;
 use show::least;
 use show::put_answer;
 use show::put_events;
+use show::put_grounds;
 use show::put_one;
 use show::put_reading;
 use show::put_writing;
@@ -16,6 +17,7 @@ use text::Command;
 use text::Phase;
 use text::Records;
 use types::Action;
+use types::Event;
 use types::Gossip;
 use wait::Wait;
 use wait::WaitState;
@@ -187,6 +189,18 @@ fn end_timer(host: Host, now: u32, out: &mut [u8]) -> Host {
     host.shown(after, wait, at, out)
 }
 
+// It changes nothing: the state that follows is the one before.
+fn why(host: Host, event: Event, draws: &[u64], out: &mut [u8]) -> Host {
+    if !host.has_node {
+        return host.without_node(out);
+    }
+    let node = host.node;
+    let wait = host.wait;
+    let grounds = swim::why(node, draws, Gossip { event });
+    let at = put_grounds(out, host.unwritten, grounds);
+    host.shown(node, wait, at, out)
+}
+
 fn wait_state(phase: Phase) -> WaitState {
     match phase {
         Phase::SendingPing => WaitState::SendingPing,
@@ -285,6 +299,7 @@ pub fn obey(
         Command::Timer { now } => end_timer(host, now, out),
         Command::Wait { phase, tick } => lend_wait(host, phase, tick),
         Command::Rows { gossip, events } => lend_rows(host, gossip, events),
+        Command::Why(event) => why(host, event, draws, out),
         Command::Read { places } => read_first(host, places, bytes, length, out),
         Command::Write { room, action } => write(host, room, action, records, bytes, out),
     }

@@ -1,6 +1,7 @@
 // Writes what a call answered, and the state that it left, as text.
 mod answers;
 mod datagrams;
+mod reasons;
 mod state;
 
 pub use answers::put_answer;
@@ -9,5 +10,6 @@ pub use answers::put_one;
 pub use answers::widen;
 pub use datagrams::put_reading;
 pub use datagrams::put_writing;
+pub use reasons::put_grounds;
 pub use state::least;
 pub use state::put_state;

@@ -17,6 +17,8 @@ use Rattle.node.specs.declared.Answer.{Answer}
 use Rattle.node.specs.Views.{storedView, answerOf, createdOf}
 use Rattle.wait.specs.declared.Wait.{Wait}
 use Rattle.wait.specs.Views.{toWait, fromWait}
+use Rattle.why.specs.declared.Grounds.{Grounds}
+use Rattle.why.specs.Why as asked
 use Rattle.swim.specs.declared.Outcome.{Outcome}
 
 -- how a call ended, its node and its messages, and how many events it reported
@@ -71,3 +73,7 @@ pub record Steps (node : Node) (wait : Wait) (tick : ℕ) (draws : List ℕ) (go
 pub record EndsTimer (node : Node) (tick : ℕ) (events : List Gossip) (r : Outcome) (events′ : List Gossip) : Type 0 where
   pub answer : r ≡ outcomeOf (timerOf node tick events)
   pub told : events′ ≡ rowAfter (timerOf node tick events .events) events
+
+-- why an event is decided as it is
+pub record Explains (node : Node) (draws : List ℕ) (g : Gossip) (r : Grounds) : Type 0 where
+  pub answer : r ≡ asked.why here (storedView node) (toGossip g) draws

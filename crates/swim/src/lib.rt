@@ -8,10 +8,11 @@ use node::Node;
 use types::Action;
 use types::Gossip;
 use wait::Wait;
+use why::Grounds;
 ghost use mathlib.Core.Path.{_≡_};
 ghost use Rattle.model.specs.Calls as calls;
 ghost use Rattle.node.specs.Views.{storedView, answerOf, createdOf};
-ghost use Rattle.swim.specs.Contracts.{Creates, Adds, Receives, Steps, EndsTimer};
+ghost use Rattle.swim.specs.Contracts.{Creates, Adds, Receives, Steps, EndsTimer, Explains};
 
 // How a call ended, the node, the messages to send, and how many events were reported.
 pub struct Outcome {
@@ -96,4 +97,12 @@ pub fn end_timer(node: Node, tick: u32, events: &mut [Gossip]) -> Outcome
         answer: done.answer,
         reported: done.reported,
     }
+}
+
+// Which rule decides a gossip record on this node with these draws: 2, 5, then the refusal that `receive` would give, then the reason.
+// It changes nothing, so it hands no node back.
+pub fn why(node: Node, draws: &[u64], g: Gossip) -> Grounds
+    ensures { λ r. ⌜ Explains node (now (draws .entry)) g r ⌝ }
+{
+    why::why(node, draws, g)
 }

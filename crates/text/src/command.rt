@@ -1,7 +1,10 @@
 // The commands of a script, without their records and draws.
+use crate::records::RecordAt;
+use crate::records::record_at;
 use address::Address;
 use model::Settings;
 use types::Action;
+use types::Event;
 use words::AddressAt;
 use words::NumberAt;
 use words::OptionalAt;
@@ -48,6 +51,7 @@ pub enum Command {
         gossip: usize,
         events: usize,
     },
+    Why(Event),
     Read {
         places: usize,
     },
@@ -318,6 +322,15 @@ fn wait_at(s: &[u8], at: usize) -> Head {
     wait_of_peer(word, s, end + 1)
 }
 
+// One record, and no more.
+fn why_at(s: &[u8], at: usize) -> Head {
+    let RecordAt::Found { event, next } = record_at(s, at) else {
+        return malformed();
+    };
+    let command = Command::Why(event);
+    Head { command, next }
+}
+
 fn message_at(verb: &[u8], s: &[u8], at: usize) -> Head {
     if check::same(verb, b"ping") {
         return ping_at(s, at);
@@ -410,6 +423,9 @@ fn other_head(verb: &[u8], s: &[u8], at: usize) -> Head {
     }
     if check::same(verb, b"rows") {
         return rows_at(s, at);
+    }
+    if check::same(verb, b"why") {
+        return why_at(s, at);
     }
     message_at(verb, s, at)
 }

@@ -51,6 +51,7 @@ fn tail_of(command: Command) -> Tail {
             gossip: _,
             events: _,
         } => Tail::Nothing,
+        Command::Why(_) => Tail::Draws,
         Command::Read { places: _ } => Tail::Bytes,
         Command::Write { room: _, action: _ } => Tail::Records,
     }

@@ -100,7 +100,7 @@ fn record_of(word: &[u8]) -> Record {
 }
 
 // The bar, the end of the line, or a record.
-fn record_at(s: &[u8], at: usize) -> RecordAt {
+pub fn record_at(s: &[u8], at: usize) -> RecordAt {
     if let MarkAt::Found(next) = mark_at(s, at, b'|') {
         return RecordAt::Bar(next);
     }

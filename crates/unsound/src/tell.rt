@@ -6,6 +6,7 @@ use types::Action;
 use types::Gossip;
 use types::Optional;
 use wait::Wait;
+use why::Grounds;
 
 fn refusal(reply: Reply) -> u64 {
     match reply {
@@ -58,10 +59,25 @@ fn tell_timer(node: Node) {
     tell_refusal(reply);
 }
 
+fn tell_why(node: Node) {
+    let draws = [0u64; 1];
+    let grounds = why::why(node, &draws, Gossip::none());
+    match grounds {
+        Grounds::Because {
+            reason: _,
+            held: _,
+            number: _,
+            dead: _,
+        } => tell_refusal(Reply::Done(0)),
+        Grounds::Refused(refusal) => tell_refusal(Reply::Refused(refusal)),
+    }
+}
+
 pub fn tell(node: Node) {
     tell_add(node);
     tell_message(node);
     tell_step(node);
     tell_timer(node);
+    tell_why(node);
     io::write_all(STDOUT_FILENO, b"\n");
 }
