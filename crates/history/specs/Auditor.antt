@@ -11,14 +11,13 @@ use native.Mathlib.Omega.{arith}
 use lib.ListN.{length, getD, drop}
 use lib.Dec.{leb}
 use borrow.Author.Tests.{leb-true}
-use Rattle.model.specs.declared.Settings.{Settings}
 use Rattle.laws.specs.Bools.{and-split}
 use Rattle.model.specs.Bounds.{Room}
 use Rattle.model.specs.Words.{Address, Lawful, isAlive, Event, Nothing, Joined, Recovered, Suspected, Deceased, Gossip, Action, Ping, PingReq, Ack, Timer, noTimer}
 use Rattle.model.specs.Node.{Node, Stored, loaded, lists, numbered, stateOf}
 use Rattle.model.specs.Detector.{firstOver}
 use Rattle.laws_rules.specs.KeepsCalls.{first-over-in}
-use Rattle.model.specs.Calls.{created, create}
+use Rattle.history.specs.Beginnings.{Beginning, ownOf, Gave}
 use Rattle.history.specs.Moments.{Deed, Told, Sender, Added, Other, Moment, endedDeed}
 use Rattle.history.specs.Ledger.{Tally, goes, carried, tally}
 use Rattle.history.specs.Did.{timed}
@@ -290,16 +289,15 @@ module _ {A : Type 0} (address : Address A) (a : A) where
         from (inl r) = r
         from (inr (g, away)) = never (sym g ∙ p)
 
-module _ {A : Type 0} (address : Address A) (lawful : Lawful address) (settings : Settings) (own : A) (n tick : ℕ) (node : Stored A)
-    (accepted : create address settings own n ≡ created node) (h : List (Call A)) (a : A) where
+module _ {A : Type 0} (address : Address A) (lawful : Lawful address) (b : Beginning A) (tick : ℕ) (node : Stored A) (gave : Gave address b node) (h : List (Call A)) (a : A) where
   abbrev last : World A
-  last = demand3.last address lawful settings own n tick node accepted h a
+  last = demand3.last address lawful b tick node gave h a
 
   -- which message or time-out took it out: an address that is listed after this history and no longer after some more calls
   pub which-took-it-out : (more : List (Call A)) → lists address a (loaded (last .node)) ≡ true → lists address a (loaded (run address more last .node)) ≡ false → TakenOut address a more last
-  which-took-it-out more p q = taken-out address a lawful own more last _ (demand3.stood address lawful settings own n tick node accepted h a) p q
+  which-took-it-out more p q = taken-out address a lawful (ownOf b) more last _ (demand3.stood address lawful b tick node gave h a) p q
 
   -- whoever is not listed now was taken out for good at a place that is named, or was listed at no moment since
   pub absent-now : (more : List (Call A)) → lists address a (loaded (run address more last .node)) ≡ false
       → TakenOut address a more last ⊎ ((lists address a (loaded (last .node)) ≡ false) × Absent address a (trace address more last))
-  absent-now more q = taken-last address a lawful own more last _ (demand3.stood address lawful settings own n tick node accepted h a) q
+  absent-now more q = taken-last address a lawful (ownOf b) more last _ (demand3.stood address lawful b tick node gave h a) q

@@ -1,56 +1,39 @@
--- DEMAND 3. Of every history from a fresh node (any accepted settings, own address and number, a fresh wait record at any tick, and whichever the host lends later) and of
--- every address, of any type of address: who is listed, and in which order. The replay starts at creation's inputs.
+-- DEMAND 3. Of every history from the node that creation or a restart gave (a fresh wait record at any tick, and whichever the host lends later) and of
+-- every address, of any type of address: who is listed, and in which order. The replay starts at the inputs of creation or of the restart.
 -- Assumes nothing.
 use mathlib.Core.Path.{_≡_, ap, sym, _∙_}
 use mathlib.Core.Bool.{true, false}
 use mathlib.Core.List.{List}
 use Prim.Native.Nat.{ℕ, _+_, _≤_}
 use native.Mathlib.Omega.{arith}
-use borrow.Author.Tests.{not-false}
-use Rattle.model.specs.declared.Settings.{Settings}
 use Rattle.model.specs.Rows.{one, occurs}
 use Rattle.model.specs.Words.{Address, Lawful}
 use Rattle.model.specs.Members.{addrs}
 use Rattle.model.specs.Lamps.{lampsOf}
-use Rattle.model.specs.Node.{Node, Stored, loaded, stored, fresh, lists, numbered}
-use Rattle.model.specs.Sound.{inRange, sound}
+use Rattle.model.specs.Node.{Node, Stored, loaded, stored, lists, numbered}
+use Rattle.model.specs.Sound.{sound}
 use Rattle.laws.specs.Counts.{has-is}
 use Rattle.laws_node.specs.Good.{Good, good-sound, loaded-stored}
-use Rattle.model.specs.Calls.{Created, created, notCreated, create, createTests}
+use Rattle.history.specs.Beginnings.{Beginning, ownOf, Gave}
 use Rattle.history.specs.Ledger.{Tally, tally, begun}
 use Rattle.history.specs.Did.{Kept}
-use Rattle.history.specs.Worlds.{Stands, stands, Went, walk, begins, first-cases}
+use Rattle.history.specs.Worlds.{Stands, stands, Went, walk, begins, first-good}
 use Rattle.history.specs.Histories.{World, Call, run, trace, start}
 use Rattle.history.specs.Next.{Known, known-of}
 
-module _ {A : Type 0} (address : Address A) where
-  -- creation gave a node: it is the fresh one, and its tests were passed
-  pub created-is : (settings : Settings) (own : A) (n : ℕ) (node : Stored A) → create address settings own n ≡ created node
-      → (node ≡ stored address (fresh settings own n)) × (inRange settings ≡ true) × (address .valid own ≡ true)
-  unfolding create
-  created-is settings own n node =
-      first-cases (λ (c : Created A). c ≡ created node → (node ≡ stored address (fresh settings own n)) × (inRange settings ≡ true) × (address .valid own ≡ true))
-      (createTests address settings own) notCreated (created (stored address (fresh settings own n)))
-      (λ r e. let z : _≡_ {A = ℕ} 0 1 = ap kind e in absurd (omega arith))
-      (λ p e. (cc, not-false (inRange settings) (p .1 .0), not-false (address .valid own) (p .0)))
-    where
-      kind : Created A → ℕ
-      kind (notCreated r) = 0
-      kind (created s) = 1
+module _ {A : Type 0} (address : Address A) (lawful : Lawful address) (b : Beginning A) (tick : ℕ) (node : Stored A) (gave : Gave address b node) (h : List (Call A)) (a : A) where
+  -- the world after the history, and the ledger: of the beginning's inputs and the calls alone
+  abbrev own : A
+  own = ownOf b
 
-module _ {A : Type 0} (address : Address A) (lawful : Lawful address) (settings : Settings) (own : A) (n tick : ℕ) (node : Stored A)
-    (accepted : create address settings own n ≡ created node) (h : List (Call A)) (a : A) where
-  -- the world after the history, and the ledger: of creation's inputs and the calls alone
   abbrev pub last : World A
-  last = run address h (start address settings own n tick)
+  last = run address h (start address b tick)
 
   abbrev pub ledger : Tally
-  ledger = tally address a (trace address h (start address settings own n tick)) (begun address a own)
+  ledger = tally address a (trace address h (start address b tick)) (begun address a b)
 
-  went : Went address lawful a own (begun address a own) (trace address h (start address settings own n tick)) last
-  went =
-      let c = created-is address settings own n node accepted in
-      walk address lawful a own h (start address settings own n tick) (begun address a own) (begins address lawful a settings own n tick (c .1) (c .2))
+  went : Went address lawful a own (begun address a b) (trace address h (start address b tick)) last
+  went = walk address lawful a own h (start address b tick) (begun address a b) (begins address lawful a b tick (first-good address lawful gave))
 
   pub stood : Stands address lawful a own ledger last
   stood = went .stands

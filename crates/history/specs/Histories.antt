@@ -1,4 +1,4 @@
--- A history: any list of calls, each with its draws, its ticks and how many places the host lends, from a fresh node. A step's wait record is the one that the last step
+-- A history: any list of calls, each with its draws, its ticks and how many places the host lends, from the node that creation or a restart gave. A step's wait record is the one that the last step
 -- left, unless the host lends another: a fresh one, an older one, or one that it made up.
 -- Assumes nothing.
 use mathlib.Core.List.{List, [], _∷_, _++_}
@@ -6,12 +6,12 @@ use mathlib.Core.Option.{Option, none, some}
 use Prim.Native.Nat.{ℕ}
 use Rattle.model.specs.declared.Reply.{Reply}
 use Rattle.model.specs.declared.Reply.the-variants.{Done, Already, NotDue, Refuted, Gone, Refused, RefusedAt}
-use Rattle.model.specs.declared.Settings.{Settings}
 use Rattle.model.specs.Bounds.{Room}
 use Rattle.model.specs.Words.{Address, Gossip, Action, Wait, SendingPing}
-use Rattle.model.specs.Node.{Node, Stored, loaded, stored, fresh}
+use Rattle.model.specs.Node.{Node, Stored, loaded, stored}
 use Rattle.model.specs.Detector.{firstOver}
 use Rattle.model.specs.Calls.{StepOutcome, unchanged, addPeer, message, detect, endTimer}
+use Rattle.history.specs.Beginnings.{Beginning, firstNode}
 use Rattle.history.specs.Moments.{Moment, Added, silent, traceAdd, traceMessage, traceStep, traceTimer}
 
 -- what the calls of a history work on
@@ -82,5 +82,5 @@ module _ {A : Type 0} (address : Address A) where
   trace (c ∷ h) w = moments c w ++ trace h (worldOf (outcome c w))
 
   -- "a fresh one is SendingPing at any tick"
-  abbrev pub start : Settings → A → ℕ → ℕ → World A
-  start settings own n tick = record { node = stored address (fresh settings own n); wait = record { state = SendingPing; since = tick } }
+  abbrev pub start : Beginning A → ℕ → World A
+  start b tick = record { node = stored address (firstNode b); wait = record { state = SendingPing; since = tick } }

@@ -5,9 +5,11 @@ use mathlib.Core.Bool.{Bool, false, not, _&&_}
 use mathlib.Core.List.{List, [], _∷_}
 use Prim.Native.Nat.{ℕ, _+_, max}
 use lib.Dec.{ltb, leb}
-use Rattle.model.specs.Rows.{one, pick}
+use Rattle.model.specs.Rows.{one, pick, has}
 use Rattle.model.specs.Words.{Address, isAlive, partsOf, Event, Nothing, Joined, Recovered, Suspected, Deceased, Gossip}
+use Rattle.model.specs.Members.{addrs}
 use Rattle.model.specs.Node.{Node, numbered, stateOf}
+use Rattle.history.specs.Beginnings.{Beginning, Creation, Restart}
 use Rattle.history.specs.Moments.{Deed, Told, Sender, Added, Ended, Other, Moment}
 
 pub record Tally : Type 0 where
@@ -84,6 +86,7 @@ module _ {A : Type 0} (address : Address A) (a : A) where
   tally [] t = t
   tally (m ∷ ms) t = tally ms (step m t)
 
-  -- "Entries: the fresh node's own address"
-  abbrev pub begun : A → Tally
-  begun own = record { entries = one (address .same a own); departures = 0; top = 0 }
+  -- "Entries: the fresh node's own address"; "from a restored node with its listed addresses as first entries"
+  abbrev pub begun : Beginning A → Tally
+  begun (Creation settings own n) = record { entries = one (address .same a own); departures = 0; top = 0 }
+  begun (Restart settings own rows position) = record { entries = one (has (address .same) a (addrs rows)); departures = 0; top = 0 }

@@ -1,4 +1,5 @@
 pub mod Moments
+pub mod Beginnings
 pub mod Ledger
 pub mod Did
 pub mod Rules

@@ -12,7 +12,6 @@ use Rattle.model.specs.declared.Reply.{Reply}
 use Rattle.model.specs.declared.Fate.{Fate}
 use Rattle.model.specs.declared.Fate.the-variants.{Leaves, Stays, Absent}
 use Rattle.model.specs.declared.Reply.the-variants.{Done, Already, NotDue, Refuted, Gone, Refused, RefusedAt}
-use Rattle.model.specs.declared.Settings.{Settings}
 use Rattle.model.specs.declared.Kind.{Kind}
 use Rattle.model.specs.declared.Kind.the-variants as kind
 use Rattle.model.specs.Rows.{pick, every, removeAt}
@@ -30,7 +29,8 @@ use Rattle.laws_node.specs.Good.{Good, loaded-stored}
 use Rattle.laws_rules.specs.Keeps.{Keeps, add-keeps}
 use Rattle.laws_rules.specs.KeepsCalls.{handle-keeps, step-keeps, end-keeps, first-over-in}
 use Rattle.model.specs.Calls as calls
-use Rattle.history.specs.Ledger.{Tally, tally, begun}
+use Rattle.history.specs.Beginnings.{Beginning, Creation, Restart, Gave}
+use Rattle.history.specs.Ledger.{Tally, tally}
 use Rattle.history.specs.Histories.{World, Call, Add, Receive, Step, Lends, outcome, worldOf, run, moments, start}
 use Rattle.history.specs.Histories as history
 use Rattle.history.specs.Worlds.{Stands, stands, call-stands, first-cases}
@@ -301,8 +301,10 @@ module _ {A : Type 0} (address : Address A) (lawful : Lawful address) (a own : A
       rw (sym (append-assoc (loaded (w .node) .timers) (startedIn address c w) rest))
       (within-trans (runs-within h w′ (tally address a (moments address c w) t) (call-stands address lawful a own t c w k .stands)) (within-more rest (call-within t c w k)))
 
-module _ {A : Type 0} (address : Address A) (lawful : Lawful address) (settings : Settings) (own : A) (n tick : ℕ) (node : Stored A)
-    (accepted : calls.create address settings own n ≡ calls.created node) (h : List (Call A)) where
-  pub in-starting-order : Within (loaded (run address h (start address settings own n tick) .node) .timers) (started address h (start address settings own n tick))
+module _ {A : Type 0} (address : Address A) (lawful : Lawful address) (tick : ℕ) where
+  pub in-starting-order : (b : Beginning A) (node : Stored A) → Gave address b node → (h : List (Call A)) → Within (loaded (run address h (start address b tick) .node) .timers) (started address h (start address b tick))
   unfolding loaded stored fresh
-  in-starting-order = runs-within address lawful own own h (start address settings own n tick) (begun address own own) (demand3.stood address lawful settings own n tick node accepted [] own)
+  in-starting-order (Creation settings own n) node gave h =
+      runs-within address lawful own own h (start address (Creation settings own n) tick) _ (demand3.stood address lawful (Creation settings own n) tick node gave [] own)
+  in-starting-order (Restart settings own rows position) node gave h =
+      runs-within address lawful own own h (start address (Restart settings own rows position) tick) _ (demand3.stood address lawful (Restart settings own rows position) tick node gave [] own)

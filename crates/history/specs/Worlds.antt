@@ -1,6 +1,6 @@
 -- The ledger along every call and every history: the rows hold a good node, and every moment is fine.
 -- Assumes nothing.
-use mathlib.Core.Path.{_≡_, refl, sym}
+use mathlib.Core.Path.{_≡_, refl, ap, sym}
 use mathlib.Core.Bool.{Bool, true, false}
 use mathlib.Core.List.{List, [], _∷_}
 use mathlib.Core.Option.{Option, none, some}
@@ -19,14 +19,15 @@ use Rattle.model.specs.Answers.{Answer, done, andThen}
 use Rattle.laws.specs.After.{After, halts, gives, after-then, after-both}
 use Rattle.model.specs.Words.{Address, Lawful, Wait, SendingPing, noTimer}
 use Rattle.model.specs.Members.{Members}
-use Rattle.model.specs.Node.{Node, Effect, Stored, loaded, stored, fresh, withMembers, lists}
+use Rattle.model.specs.Node.{Node, Effect, Stored, loaded, stored, fresh, restarted, withMembers, lists}
 use Rattle.model.specs.Detector.{Stepped, step as stepRule, due, firstOver, fateAt}
 use Rattle.model.specs.Sound.{inRange, validGossip}
 use Rattle.laws_node.specs.Good.{Good, loaded-stored}
 use Rattle.laws_rules.specs.Keeps.{Keeps, add-keeps}
-use Rattle.laws_rules.specs.KeepsCalls.{handle-keeps, step-keeps, end-keeps, first-over-in, fresh-good}
-use Rattle.model.specs.Calls.{Outcome, StepOutcome, firstOf, refuses, orAlready, whenDue, kept, keptMessage, keptStep, keptEnd, joins, addTests, messageTests, stepTests, timerTests, addPeer, message, detect, endsAt, endTimer, validAction, validState}
+use Rattle.laws_rules.specs.KeepsCalls.{handle-keeps, step-keeps, end-keeps, first-over-in, fresh-good, restarted-good}
+use Rattle.model.specs.Calls.{Created, created, notCreated, create, createTests, Outcome, StepOutcome, firstOf, refuses, orAlready, whenDue, kept, keptMessage, keptStep, keptEnd, joins, addTests, messageTests, stepTests, timerTests, addPeer, message, detect, endsAt, endTimer, validAction, validState}
 use Rattle.history.specs.Moments.{Moment, Added, moment, silent, traceAdd, traceMessage, traceStep, traceTimer, endedDeed}
+use Rattle.history.specs.Beginnings.{Beginning, Creation, Restart, ownOf, firstNode, Gave, creates, restarts}
 use Rattle.history.specs.Ledger.{Tally, tally, begun}
 use Rattle.history.specs.Did.{Did, Kept}
 use Rattle.history.specs.Rules.{add-did, already-did, timer-did}
@@ -182,11 +183,10 @@ module _ {A : Type 0} (address : Address A) (lawful : Lawful address) (a : A) wh
         fine = along-append address a own (moments address c w) (trace address h w′) t (p .fine) (q .fine);
       }
 
-  -- the fresh node and the fresh wait record, at any tick
-  pub begins : (settings : Settings) (own : A) (n tick : ℕ) → inRange settings ≡ true → address .valid own ≡ true → Stands own (begun address a own) (start address settings own n tick)
+  -- the first node and the fresh wait record, at any tick
+  pub begins : (b : Beginning A) (tick : ℕ) → Good address (firstNode b) → Stands (ownOf b) (begun address a b) (start address b tick)
   unfolding fresh
-  begins settings own n tick c v =
-      let g = fresh-good address lawful settings own n c v in
+  begins (Creation settings own n) tick g =
       stands (fresh settings own n) (record { state = SendingPing; since = tick }) g
       (record {
         whole = g .whole;
@@ -194,3 +194,30 @@ module _ {A : Type 0} (address : Address A) (lawful : Lawful address) (a : A) wh
         count = elim (address .same a own) as (λ u. one u ≡ 0 + one (pick u true false)) [ true ↦ refl | false ↦ refl ];
         low = λ _ _. omega arith;
       })
+  begins (Restart settings own rows position) tick g =
+      stands (restarted settings own rows position) (record { state = SendingPing; since = tick }) g
+      (record { whole = g .whole; mine = refl; count = omega arith; low = λ _ _. omega arith })
+
+  -- what creation gave is the fresh node, and it is good
+  created-is : (settings : Settings) (own : A) (n : ℕ) (node : Stored A) → create address settings own n ≡ created node
+      → (node ≡ stored address (fresh settings own n)) × (inRange settings ≡ true) × (address .valid own ≡ true)
+  unfolding create
+  created-is settings own n node =
+      first-cases (λ (c : Created A). c ≡ created node → (node ≡ stored address (fresh settings own n)) × (inRange settings ≡ true) × (address .valid own ≡ true))
+      (createTests address settings own) notCreated (created (stored address (fresh settings own n)))
+      (λ r e. let z : _≡_ {A = ℕ} 0 1 = ap kind e in absurd (omega arith))
+      (λ p e. (cc, not-false (inRange settings) (p .1 .0), not-false (address .valid own) (p .0)))
+    where
+      kind : Created A → ℕ
+      kind (notCreated r) = 0
+      kind (created s) = 1
+
+-- the first node is good, and it is the one that was given
+module _ {A : Type 0} (address : Address A) (lawful : Lawful address) where
+  pub first-is : {b : Beginning A} {node : Stored A} → Gave address b node → node ≡ stored address (firstNode b)
+  first-is (creates {settings} {own} {n} {node} e) = created-is address lawful own settings own n node e .0
+  first-is (restarts c r) = refl
+
+  pub first-good : {b : Beginning A} {node : Stored A} → Gave address b node → Good address (firstNode b)
+  first-good (creates {settings} {own} {n} {node} e) = let p = created-is address lawful own settings own n node e in fresh-good address lawful settings own n (p .1) (p .2)
+  first-good (restarts {settings} {own} {rows} {position} c r) = restarted-good address lawful settings own rows position c (r .own-valid) (r .few) (r .valid) (r .once) (r .placed)

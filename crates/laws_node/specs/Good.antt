@@ -46,12 +46,12 @@ pub record FullRows {A : Type 0} (s : Stored A) : Type 0 where
   pub timers : length (s .timers .places) ≡ 16
 
 -- "position below the length, or 0 if empty"
-positioned-le : (p n : ℕ) → positioned p n ≡ true → p ≤ n - 1
+pub positioned-le : (p n : ℕ) → positioned p n ≡ true → p ≤ n - 1
 unfolding positioned
 positioned-le p zero e = omega (arith, eqb-true p 0 e)
 positioned-le p (suc n) e = omega (arith, ltb-true p (suc n) (rw (eqb·suc-zero n) at e))
 
-le-positioned : (p n : ℕ) → p ≤ n - 1 → positioned p n ≡ true
+pub le-positioned : (p n : ℕ) → p ≤ n - 1 → positioned p n ≡ true
 unfolding positioned
 le-positioned p zero h = eq-eqb p 0 (omega arith)
 le-positioned p (suc n) h = rw (eqb·suc-zero n) (lt-ltb p (suc n) (omega arith))

@@ -7,7 +7,7 @@ use mathlib.Core.Option.{Option, none, some}
 use Prim.Native.Nat.{ℕ, zero, suc, _≤_, _<_}
 use native.Mathlib.Omega.{arith}
 use native.Mathlib.Nat.{not-suc-le-zero, le-of-suc-le-suc}
-use lib.ListN.{length, getD, length-append}
+use lib.ListN.{length, getD, length-append, length-map}
 use borrow.Author.Tests.{leb-false}
 use Rattle.model.specs.declared.State.the-variants as state
 use Rattle.model.specs.declared.Fate.{Fate}
@@ -16,19 +16,20 @@ use Rattle.model.specs.Rows.{every, removeAt}
 use Rattle.model.specs.Answers.{Answer}
 use Rattle.laws.specs.Bools.{and-split, and-join, every-append, none-some}
 use Rattle.laws.specs.After.{After, halts, gives, after-when, after-then, after-map}
-use Rattle.model.specs.Words.{Address, Lawful, Gossip, Timer, Message, Action, Ping, PingReq, Ack, WaitState, SendingPing, WaitingForPingAck, SendingPingReq, WaitingForPingReqAck, Declaring, noTimer}
+use Rattle.model.specs.Words.{Address, Lawful, Member, Gossip, Timer, Message, Action, Ping, PingReq, Ack, WaitState, SendingPing, WaitingForPingAck, SendingPingReq, WaitingForPingReqAck, Declaring, noTimer}
 use Rattle.model.specs.Members.{Members, addrs}
-use Rattle.model.specs.Node.{heapOf, Node, Out, Effect, withMembers, numbered, spread, fresh}
+use Rattle.model.specs.Node.{heapOf, Node, Out, Effect, withMembers, numbered, spread, fresh, restarted}
 use Rattle.model.specs.Handler.{admit, answerTo, forwarded, handle}
 use Rattle.model.specs.Detector.{Stepped, pinged, sendPing, waited, askEach, suspect, asked, pickGroup, sendPingReq, declare, step, byFate, freed, timerAt, fateAt, endAt, firstOver, isOver, later}
 use Rattle.model.specs.declared.Kind.{Kind}
 use Rattle.model.specs.declared.Kind.the-variants as kind
-use Rattle.model.specs.Sound.{inRange, validGossip}
+use Rattle.model.specs.Sound.{inRange, validGossip, distinct, positioned}
 use Rattle.model.specs.Calls.{validAction, validOption, validState}
 use Rattle.model.specs.Heap.{allBelow}
 use Rattle.laws.specs.Counts.{one-le}
+use Rattle.laws_list.specs.Distinct.{distinct-once}
 use Rattle.laws_list.specs.Picking.{Turned, pick-turned}
-use Rattle.laws_node.specs.Good.{Good}
+use Rattle.laws_node.specs.Good.{Good, positioned-le}
 use Rattle.laws_choose.specs.GoodHeap.{GoodHeap}
 use Rattle.laws_rules.specs.Keeps.{Keeps, KeepsOut, keeps-trans, same-node, with-members, more-keeps, gossip-keeps, admit-keeps, acked-keeps, spread-keeps, quiet-keeps, change-keeps, leave-keeps, with-timers, emit-keeps, suspicion-fits, death-fits}
 use Rattle.laws_rules.specs.Judged.{Fated, fated-leaves, fated-alive, fated-greater, fated-absent, fated}
@@ -180,9 +181,15 @@ module _ {A : Type 0} (address : Address A) (lawful : Lawful address) where
         | false ↦ λ q. behind (length ts) (firstOver address wait now ts) i (first-over-in wait now ts) q
       ]) e
 
+  -- empty heaps are good
+  no-news : (k : Kind) → GoodHeap address k (heapOf k (record { alive = []; deceased = [] }))
+  unfolding allBelow
+  no-news kind.Alive = record { few = omega arith; entries = refl; order = refl }
+  no-news kind.Deceased = record { few = omega arith; entries = refl; order = refl }
+
   -- a fresh node is good
   pub fresh-good : (settings : Settings) (own : A) (n : ℕ) → inRange settings ≡ true → address .valid own ≡ true → Good address (fresh settings own n)
-  unfolding fresh allBelow
+  unfolding fresh
   fresh-good settings own n c v =
       record {
         settings = c;
@@ -196,10 +203,29 @@ module _ {A : Type 0} (address : Address A) (lawful : Lawful address) where
               place = omega arith;
             };
         valid = and-join v refl;
-        heaps = λ k. elim k as (λ j. GoodHeap address j (heapOf j (record { alive = []; deceased = [] }))) [ kind.Alive ↦ none-held kind.Alive | kind.Deceased ↦ none-held kind.Deceased ];
+        heaps = no-news;
         few = omega arith;
         timers = refl;
       }
-    where
-      none-held : (k : Kind) → GoodHeap address k []
-      none-held k = record { few = omega arith; entries = refl; order = refl }
+
+  -- the node of a restart
+  pub restarted-good : (settings : Settings) (own : A) (rows : List (Member A)) (position : ℕ) → inRange settings ≡ true → address .valid own ≡ true → length rows ≤ 64
+      → every (address .valid) (addrs rows) ≡ true → distinct (address .same) (addrs rows) ≡ true → positioned position (length rows) ≡ true → Good address (restarted settings own rows position)
+  restarted-good settings own rows position c v few valid once placed =
+      let l = length-map rows (λ (m : Member A). m .addr) in
+      record {
+        settings = c;
+        own = v;
+        whole =
+            record {
+              once = distinct-once (address .same) (lawful .test) (addrs rows) once;
+              counts = λ b. refl;
+              long = l;
+              few = few;
+              place = omega (arith, positioned-le position (length rows) placed, l);
+            };
+        valid = valid;
+        heaps = no-news;
+        few = omega arith;
+        timers = refl;
+      }

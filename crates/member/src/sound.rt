@@ -17,7 +17,7 @@ ghost use Rattle.member.specs.Views.{toMember, addrOf, blankAddress};
 ghost use Rattle.member.specs.Drawers.{Firsts};
 
 // Position below the length, or 0 if the list is empty.
-fn well_placed(position: usize, n: usize) -> bool
+pub fn well_placed(position: usize, n: usize) -> bool
     ensures { λ r. ⌜ r ≡ positioned position n ⌝ }
 {
     if n == 0 {
@@ -72,7 +72,11 @@ fn seek(order: &[Address; Members::CAPACITY], firsts: &[usize; 64], n: usize, a:
 
 // Are the first n of a row distinct, and those of the order a permutation of them? One pass that marks: each is found in the order, at a place
 // that none before it was found at.
-fn matches(row: [Address; Members::CAPACITY], order: [Address; Members::CAPACITY], n: usize) -> bool
+pub fn matches(
+    row: [Address; Members::CAPACITY],
+    order: [Address; Members::CAPACITY],
+    n: usize,
+) -> bool
     requires { ⌜ n ≤ 64 ⌝ }
     ensures { λ r. ⌜ r ≡ (distinct (here .same) (take n row) && permutes (here .same) (take n order) (take n row)) ⌝ }
 {
@@ -94,7 +98,7 @@ fn matches(row: [Address; Members::CAPACITY], order: [Address; Members::CAPACITY
 }
 
 // Are the first n of a row in range?
-fn all_in_range(row: [Address; Members::CAPACITY], n: usize) -> bool
+pub fn all_in_range(row: [Address; Members::CAPACITY], n: usize) -> bool
     requires { ⌜ n ≤ 64 ⌝ }
     ensures { λ r. ⌜ r ≡ every (here .valid) (take n row) ⌝ }
 {

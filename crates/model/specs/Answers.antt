@@ -6,7 +6,7 @@ use Prim.Native.Nat.{ℕ}
 use Rattle.model.specs.declared.Kind.{Kind}
 use Rattle.model.specs.declared.Kind.the-variants as kind
 use Rattle.model.specs.declared.Refusal.{Refusal}
-use Rattle.model.specs.declared.Refusal.the-variants.{Setting, Unsound, ShortRow, ManyRecords, AddressRange, NumberEnd, ListFull, DrawsShort, AliveFull, TimersFull, Malformed, NoRoom, DeceasedFull}
+use Rattle.model.specs.declared.Refusal.the-variants.{Setting, Unsound, ShortRow, ManyRecords, AddressRange, NumberEnd, ListFull, DrawsShort, AliveFull, TimersFull, Malformed, NoRoom, DeceasedFull, WrongMark, WrongLength, OutOfRule}
 
 -- the table: the number of each refusal. A node's calls give 1 to 10 and 13; 11 and 12 are of bytes that are no datagram, and of bytes that the lent row has no room for
 abbrev pub numberOf : Refusal → ℕ
@@ -23,6 +23,9 @@ numberOf TimersFull = 10
 numberOf Malformed = 11
 numberOf NoRoom = 12
 numberOf DeceasedFull = 13
+numberOf WrongMark = 14
+numberOf WrongLength = 15
+numberOf OutOfRule = 16
 
 -- "Refusals: 9 alive heap full, 13 deceased heap full"
 abbrev pub fullOf : Kind → Refusal

@@ -176,6 +176,17 @@ stored address s =
       timers = rowOf timer-places (noTimer address) (s .timers);
     }
 
+-- "a node with empty heaps, no timers .. and settings given anew": of an own address, the records of a list in probing order, and its position
+abbrev pub restarted : {A : Type 0} → Settings → A → List (Member A) → ℕ → Node A
+restarted settings own rows position =
+    record {
+      settings = settings;
+      own = own;
+      members = record { table = rows; order = list.addrs rows; position = position };
+      disseminator = record { alive = []; deceased = [] };
+      timers = [];
+    }
+
 -- "it lists that address Alive at place 0, all else empty"
 unfoldable pub fresh : {A : Type 0} → Settings → A → ℕ → Node A
 fresh settings own n =

@@ -111,6 +111,9 @@ pub enum Refusal {
     Malformed,
     NoRoom,
     DeceasedFull,
+    WrongMark,
+    WrongLength,
+    OutOfRule,
 }
 
 // Where the rules of a message stopped: at a gossip record, counted from 0 in the lent row, or at the sender's own admission.
@@ -191,6 +194,9 @@ pub fn refusal_number(refusal: Refusal) -> u8
         Refusal::Malformed => 11,
         Refusal::NoRoom => 12,
         Refusal::DeceasedFull => 13,
+        Refusal::WrongMark => 14,
+        Refusal::WrongLength => 15,
+        Refusal::OutOfRule => 16,
     }
 }
 

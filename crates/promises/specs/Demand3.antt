@@ -1,5 +1,5 @@
--- DEMAND 3, OF THE PROGRAM. Of every run of calls of `swim` from a created node and a fresh wait record at any tick, with any wait record that the host lends later, and of every
--- address. The ledger is 01's, replayed from creation's inputs and the calls alone; the nodes and the rows are those that the program was handed back.
+-- DEMAND 3, OF THE PROGRAM. Of every run of calls of `swim` from the node that creation or a restart handed back, with a fresh wait record at any tick, with any wait record that the host lends later, and of every
+-- address. The ledger is 01's, replayed from the inputs of creation or of the restart and the calls alone; the nodes and the rows are those that the program was handed back.
 -- Assumes nothing.
 use mathlib.Core.Path.{_≡_, refl, sym, _∙_, ap, subst}
 use mathlib.Core.Bool.{true, false}
@@ -7,7 +7,6 @@ use mathlib.Core.List.{List, [], _∷_, _++_, map}
 use mathlib.Core.Option.{some}
 use Prim.Native.Nat.{ℕ, suc, _+_, _≤_, _<_}
 use lib.ListN.{length, take, drop}
-use Rattle.model.specs.declared.Settings.{Settings}
 use Rattle.model.specs.declared.Lamps.{Lamps}
 use Rattle.model.specs.Rows.{one, occurs}
 use Rattle.model.specs.Bounds.{Room}
@@ -18,8 +17,9 @@ use Rattle.model.specs.Lamps.{lampsOf}
 use Rattle.model.specs.Node as M
 use Rattle.model.specs.Detector.{firstOver}
 use Rattle.model.specs.Sound.{sound}
-use Rattle.model.specs.Calls as calls
 use Rattle.history.specs.Moments.{Moment}
+use Rattle.history.specs.Beginnings.{Beginning, ownOf, Gave}
+use Rattle.history.specs.Worlds.{first-is}
 use Rattle.history.specs.Ledger.{Tally, carried, tally, begun}
 use Rattle.history.specs.Walk.{Along}
 use Rattle.history.specs.Histories as history
@@ -34,16 +34,15 @@ use Rattle.history.specs.Started.{Within, started}
 use Rattle.types.specs.declared.Gossip.{Gossip}
 use Rattle.node.specs.declared.Node.{Node}
 use Rattle.node.specs.declared.Letter.{Letter}
-use Rattle.node.specs.declared.Answer.{Answer}
-use Rattle.node.specs.Views.{storedView, viewNode, createdOf, fromMessage}
+use Rattle.node.specs.Views.{storedView, viewNode, fromMessage}
 use Rattle.node.specs.Rows.{loaded-view}
 use Rattle.wait.specs.declared.Wait.{Wait}
-use Rattle.wait.specs.Views.{freshWait, toWait}
-use Rattle.swim.specs.Contracts.{Creates, rowAfter}
+use Rattle.wait.specs.Views.{toWait}
+use Rattle.swim.specs.Contracts.{rowAfter}
 use Rattle.promises.specs.Panel.{Shows, shows-true}
-use Rattle.promises.specs.Replies.{done-apart}
-use Rattle.promises.specs.Made.{Held, Said, Accepted, Made}
-use Rattle.promises.specs.Runs.{Runs, rests, makes, world, seen, made-is, runs-is, stored-unstored}
+use Rattle.promises.specs.Begun.{Begun, begun-gave, begun-wait}
+use Rattle.promises.specs.Made.{Held, Said, Made}
+use Rattle.promises.specs.Runs.{Runs, rests, makes, world, seen, made-is, runs-is}
 
 -- what demand 3 says of one call of a run, by its moments ms and the ledger t before it: about the node that the program handed in and the one it was handed back, and the events that
 -- stand in its row
@@ -95,12 +94,6 @@ split (x ∷ earlier) c later (makes h _ s h′ m rest) =
     let v = split earlier c later rest in
     record { before = v .before; said = v .said; after = v .after; reached = makes h x s h′ m (v .reached); made = v .made; goes-on = v .goes-on }
 
--- creation gave a node: it is the one of the rules
-created-node : (settings : Settings) (own : Addr) (number : ℕ) (r : Answer) (c : calls.Created Addr) → r ≡ createdOf c → Accepted r → c ≡ calls.created (storedView (r .node))
-unfolding createdOf
-created-node settings own number r (calls.created s) e said = ap calls.created (sym ((λ i. storedView (e i .node)) ∙ stored-unstored s))
-created-node settings own number r (calls.notCreated x) e said = done-apart (sym said ∙ (λ i. e i .reply))
-
 targets-are : (ms : List (W.Message Addr)) → map (λ (l : Letter). l .target) (map fromMessage ms) ≡ targets ms
 targets-are [] = refl
 targets-are (m ∷ ms) = ap (λ (l : List ℕ). m .target ∷ l) (targets-are ms)
@@ -126,38 +119,40 @@ account a own t h c s h′ w e m k =
           ∙ k .pings now ds lent b n q (ap (λ (x : World Addr). x .wait .state) e ∙ p) (ap (λ (x : W.Wait Addr). x .state) waits ∙ o);
     }
 
-module _ (settings : Settings) (own : Addr) (number tick : ℕ) (r : Answer) (met : Creates settings own number r) (accepted : Accepted r)
-    (cs : List (Call Addr)) (node : Node) (wait : Wait) (runs : Runs (r .node) (freshWait tick) cs node wait) (a : Addr) where
-  -- the replay, and the ledger: of creation's inputs and the calls, and neither looks at what the program was answered
+module _ (b : Beginning Addr) (tick : ℕ) (first : Node) (first-wait : Wait) (begun-by : Begun b tick first first-wait)
+    (cs : List (Call Addr)) (node : Node) (wait : Wait) (runs : Runs first first-wait cs node wait) (a : Addr) where
+  abbrev own : Addr
+  own = ownOf b
+
+  -- the replay, and the ledger: of the inputs of creation or of the restart and the calls, and neither looks at what the program was answered
   abbrev pub last : World Addr
-  last = run here cs (start here settings own number tick)
+  last = run here cs (start here b tick)
 
   abbrev pub ledger : Tally
-  ledger = tally here a (trace here cs (start here settings own number tick)) (begun here a own)
+  ledger = tally here a (trace here cs (start here b tick)) (begun here a b)
 
-  begins : calls.create here settings own number ≡ calls.created (storedView (r .node))
-  begins = created-node settings own number r _ (met .answer) accepted
+  gave : Gave here b (storedView first)
+  gave = begun-gave begun-by
 
   -- the replay ends at the program's own node and wait record
   pub replayed : last ≡ world node wait
   replayed =
-      let fresh = model.created-is here settings own number (storedView (r .node)) begins .0 in
-      ap (λ (s : M.Stored Addr). run here cs (record { node = s; wait = toWait (freshWait tick) })) (sym fresh) ∙ runs-is runs
+      (λ i. run here cs (record { node = sym (first-is here here-lawful gave) i; wait = toWait (sym (begun-wait begun-by) i) })) ∙ runs-is runs
 
   ends : M.loaded (last .node) ≡ viewNode node
   ends = (λ i. M.loaded (replayed i .node)) ∙ loaded-view node
 
   -- "an address's entries less departures is 1 where it is listed and 0 where not"
   pub counted : ledger .entries ≡ ledger .departures + one (M.lists here a (viewNode node))
-  counted = rw (sym ends) (model.counted here here-lawful settings own number tick _ begins cs a)
+  counted = rw (sym ends) (model.counted here here-lawful b tick _ gave cs a)
 
   -- "the probing order holds each listed address once and nothing more"
   pub ordered : occurs (here .same) a (viewNode node .members .order) ≡ one (M.lists here a (viewNode node))
-  ordered = rw (sym ends) (model.ordered here here-lawful settings own number tick _ begins cs a)
+  ordered = rw (sym ends) (model.ordered here here-lawful b tick _ gave cs a)
 
   -- no number reported for a listed peer since its last entry is above the held one
   pub reported-held : M.lists here a (viewNode node) ≡ true → here .same own a ≡ false → ledger .top ≤ M.numbered here a (viewNode node)
-  reported-held = rw (sym ends) (model.reported-held here here-lawful settings own number tick _ begins cs a)
+  reported-held = rw (sym ends) (model.reported-held here here-lawful b tick _ gave cs a)
 
   -- "own address left out, true after every operation": whatever the panel reads of a node of the run are the counts of its list
   pub lamps-true : (l : Lamps) → l ≡ node .members .lamps → Shows own (viewNode node .members .table) l
@@ -166,19 +161,19 @@ module _ (settings : Settings) (own : Addr) (number tick : ℕ) (r : Answer) (me
       shows-true own (viewNode node .members .table) l
       (e
       ∙ sym (λ i. replayed i .node .lamps)
-      ∙ model.lit here here-lawful settings own number tick _ begins cs a
+      ∙ model.lit here here-lawful b tick _ gave cs a
       ∙ ap (λ (s : M.Node Addr). lampsOf (here .same) own (s .members .table)) ends)
 
   -- every node of a run is sound, so refusal 2 never meets one
   pub stays-sound : sound here (storedView node) ≡ true
-  stays-sound = ap (λ (w : World Addr). sound here (w .node)) (sym replayed) ∙ model.stays-sound here here-lawful settings own number tick _ begins cs a
+  stays-sound = ap (λ (w : World Addr). sound here (w .node)) (sym replayed) ∙ model.stays-sound here here-lawful b tick _ gave cs a
 
   -- "Timers stand in starting order": those of the program's node, in the order in which the run's declarations started them
-  pub in-starting-order : Within (viewNode node .timers) (started here cs (start here settings own number tick))
-  in-starting-order = rw (sym ends) (timers.in-starting-order here here-lawful settings own number tick _ begins cs)
+  pub in-starting-order : Within (viewNode node .timers) (started here cs (start here b tick))
+  in-starting-order = rw (sym ends) (timers.in-starting-order here here-lawful tick b _ gave cs)
 
   known : (c : Call Addr) → Known here a own ledger c (world node wait)
-  known c = subst (Known here a own ledger c) replayed (model.known here here-lawful settings own number tick _ begins cs a c)
+  known c = subst (Known here a own ledger c) replayed (model.known here here-lawful b tick _ gave cs a c)
 
   -- the next call of the run, on whatever rows the host lends
   module _ (gossip events : List Gossip) (c : Call Addr) (s : Said) (h′ : Held) (made : Made (record { node = node; wait = wait; gossip = gossip; events = events }) c s h′) where
@@ -190,7 +185,7 @@ module _ (settings : Settings) (own : Addr) (number tick : ℕ) (r : Answer) (me
     next = moments here c last
 
     pub accounted : Account a own ledger before c s h′ next
-    accounted = account a own ledger before c s h′ last replayed made (model.known here here-lawful settings own number tick _ begins cs a c)
+    accounted = account a own ledger before c s h′ last replayed made (model.known here here-lawful b tick _ gave cs a c)
 
     -- "while listed, its number never falls": from the program's node before the call to the one after it
     pub never-falls : StaysListed here a next → M.lists here a (viewNode node) ≡ true → M.numbered here a (viewNode node) ≤ M.numbered here a (viewNode (h′ .node))
@@ -199,7 +194,7 @@ module _ (settings : Settings) (own : Addr) (number tick : ℕ) (r : Answer) (me
     -- "a death notice that removes a peer carries a number no lower than any reported for it since it entered": record i of a message
     pub bound : (action : W.Action Addr) (gs : List (W.Gossip Addr)) (ds : List ℕ) (lent : Room) (i : ℕ) (m : Moment Addr) (from : Addr) (n : ℕ) → c ≡ Receive action gs ds lent → At next i m → At gs i (record { event = Deceased from a n })
         → here .same own a ≡ false → Left here a m → tally here a (take i next) ledger .top ≤ n
-    bound = bounded here a own ledger c last (model.known here here-lawful settings own number tick _ begins cs a c)
+    bound = bounded here a own ledger c last (model.known here here-lawful b tick _ gave cs a c)
 
     -- every moment at which the address left has its cause: record i of the message, or the timer that the call ended
     pub caused : (i : ℕ) (m : Moment Addr) → At next i m → Left here a m → Cause here a c (world node wait) i (m .before)
@@ -208,27 +203,27 @@ module _ (settings : Settings) (own : Addr) (number tick : ℕ) (r : Answer) (me
     -- "can an older message do it?" No: at a record whose number is below the held one the address stays
     pub no-older-message : (action : W.Action Addr) (gs : List (W.Gossip Addr)) (ds : List ℕ) (lent : Room) (i : ℕ) (m : Moment Addr) (from : Addr) (n : ℕ) → c ≡ Receive action gs ds lent → At next i m → At gs i (record { event = Deceased from a n })
         → n < M.numbered here a (m .before) → M.lists here a (m .before) ≡ true → M.lists here a (m .after) ≡ true
-    no-older-message = auditor.spared here a here-lawful own ledger c last (model.known here here-lawful settings own number tick _ begins cs a c)
+    no-older-message = auditor.spared here a here-lawful own ledger c last (model.known here here-lawful b tick _ gave cs a c)
 
     -- nor can an older time-out: the timer that ends carries a number below the held one
     pub no-older-time-out : (now : ℕ) (lent : Room) (j : ℕ) (old : W.Timer Addr) (i : ℕ) (m : Moment Addr) → c ≡ history.Timer now lent
         → firstOver here (last .node .settings .«suspect_timeout») now (M.loaded (last .node) .timers) ≡ some j → At (M.loaded (last .node) .timers) j old → At next i m
         → old .number < M.numbered here a (m .before) → M.lists here a (m .before) ≡ true → M.lists here a (m .after) ≡ true
-    no-older-time-out = auditor.refuted-older here a here-lawful own ledger c last (model.known here here-lawful settings own number tick _ begins cs a c)
+    no-older-time-out = auditor.refuted-older here a here-lawful own ledger c last (model.known here here-lawful b tick _ gave cs a c)
 
     -- nor any time-out one that is Alive
     pub no-time-out-if-alive : (now : ℕ) (lent : Room) (i : ℕ) (m : Moment Addr) → c ≡ history.Timer now lent → At next i m
         → W.isAlive (M.stateOf here a (m .before)) ≡ true → M.lists here a (m .before) ≡ true → M.lists here a (m .after) ≡ true
-    no-time-out-if-alive = auditor.refuted-alive here a here-lawful own ledger c last (model.known here here-lawful settings own number tick _ begins cs a c)
+    no-time-out-if-alive = auditor.refuted-alive here a here-lawful own ledger c last (model.known here here-lawful b tick _ gave cs a c)
 
     -- so no departure carries a number below the held one, whichever call it is
     pub no-departure-below : (i : ℕ) (m : Moment Addr) → At next i m → Left here a m → M.numbered here a (m .before) ≤ carried here a (m .deed)
-    no-departure-below = auditor.no-lower here a here-lawful own ledger c last (model.known here here-lawful settings own number tick _ begins cs a c)
+    no-departure-below = auditor.no-lower here a here-lawful own ledger c last (model.known here here-lawful b tick _ gave cs a c)
 
   -- "for any controller that has left a list, which message or time-out took it out?" The address is listed in this node, and no longer in the one after some more calls
   pub which-took-it-out : (more : List (Call Addr)) (node′ : Node) (wait′ : Wait) → Runs node wait more node′ wait′ → M.lists here a (viewNode node) ≡ true → M.lists here a (viewNode node′) ≡ false
       → Departure a node wait more node′ wait′
-  which-took-it-out more node′ wait′ rest p q = found (auditor.which-took-it-out here here-lawful settings own number tick _ begins cs a more (rw ends p) (rw ended q))
+  which-took-it-out more node′ wait′ rest p q = found (auditor.which-took-it-out here here-lawful b tick _ gave cs a more (rw ends p) (rw ended q))
     where
       ended : M.loaded (run here more last .node) ≡ viewNode node′
       ended = (λ i. M.loaded (run here more (replayed i) .node)) ∙ (λ i. M.loaded (runs-is rest i .node)) ∙ loaded-view node′

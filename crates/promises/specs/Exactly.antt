@@ -46,7 +46,7 @@ pub record ByTests (n : ℕ) (ts : List (Bool × Refusal)) : Type 0 where
   pub refuses : (x : Refusal) → (n ≡ numberOf x) ↔ FirstFails x ts
   pub gives : (n ≡ 0) ↔ Passed ts
 
-only-tests : {B : Type 0} (number : B → ℕ) (refuse : Refusal → B) → ((r : Refusal) → number (refuse r) ≡ numberOf r) → (go : B) → number go ≡ 0
+pub only-tests : {B : Type 0} (number : B → ℕ) (refuse : Refusal → B) → ((r : Refusal) → number (refuse r) ≡ numberOf r) → (go : B) → number go ≡ 0
     → (ts : List (Bool × Refusal)) {n : ℕ} → n ≡ number (firstOf ts refuse go) → ByTests n ts
 only-tests number refuse says go zero ts told =
     let after = after-tests number numberOf refuse says go 0 ts (all-among (λ r e. not-zero r (sym e)) ts) in

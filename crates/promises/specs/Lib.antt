@@ -15,4 +15,5 @@ pub mod Refused
 pub mod Runs
 pub mod Exists
 pub mod Panel
+pub mod Begun
 pub mod Demand3

@@ -6,7 +6,7 @@ use Prim.Native.Nat.{ℕ}
 use native.Mathlib.Omega.{arith}
 use lib.Dec.{eqb}
 use Rattle.model.specs.declared.Refusal.{Refusal}
-use Rattle.model.specs.declared.Refusal.the-variants.{Setting, Unsound, ShortRow, ManyRecords, AddressRange, NumberEnd, ListFull, DrawsShort, AliveFull, TimersFull, Malformed, NoRoom, DeceasedFull}
+use Rattle.model.specs.declared.Refusal.the-variants.{Setting, Unsound, ShortRow, ManyRecords, AddressRange, NumberEnd, ListFull, DrawsShort, AliveFull, TimersFull, Malformed, NoRoom, DeceasedFull, WrongMark, WrongLength, OutOfRule}
 use Rattle.model.specs.declared.Cause.{Cause}
 use Rattle.model.specs.declared.Reply.{Reply}
 use Rattle.model.specs.declared.Reply.the-variants.{Done, Already, NotDue, Refuted, Gone, Refused, RefusedAt}
@@ -75,7 +75,10 @@ named n =
     (pick (eqb n 9) AliveFull
     (pick (eqb n 10) TimersFull
     (pick (eqb n 11) Malformed
-    (pick (eqb n 12) NoRoom DeceasedFull)))))))))))
+    (pick (eqb n 12) NoRoom
+    (pick (eqb n 13) DeceasedFull
+    (pick (eqb n 14) WrongMark
+    (pick (eqb n 15) WrongLength OutOfRule))))))))))))))
 
 named-is : (x : Refusal) → named (numberOf x) ≡ x
 unfolding named
@@ -92,6 +95,9 @@ named-is TimersFull = refl
 named-is Malformed = refl
 named-is NoRoom = refl
 named-is DeceasedFull = refl
+named-is WrongMark = refl
+named-is WrongLength = refl
+named-is OutOfRule = refl
 
 pub same-number : (r x : Refusal) → numberOf r ≡ numberOf x → r ≡ x
 same-number r x e = sym (named-is r) ∙ ap named e ∙ named-is x
@@ -110,3 +116,6 @@ not-zero TimersFull e = absurd (omega arith)
 not-zero Malformed e = absurd (omega arith)
 not-zero NoRoom e = absurd (omega arith)
 not-zero DeceasedFull e = absurd (omega arith)
+not-zero WrongMark e = absurd (omega arith)
+not-zero WrongLength e = absurd (omega arith)
+not-zero OutOfRule e = absurd (omega arith)

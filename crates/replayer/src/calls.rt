@@ -4,6 +4,7 @@ use crate::host::Rooms;
 use address::Address;
 use model::Reply;
 use model::Settings;
+use node::Node;
 use report::put_reply;
 use show::least;
 use show::put_answer;
@@ -11,6 +12,7 @@ use show::put_events;
 use show::put_grounds;
 use show::put_one;
 use show::put_reading;
+use show::put_saving;
 use show::put_writing;
 use show::widen;
 use text::Command;
@@ -53,20 +55,9 @@ fn is_refused(reply: Reply) -> bool {
     }
 }
 
-// A creation that succeeds ends what was lent before; one that is refused leaves no node.
-fn create(
-    mut host: Host,
-    settings: Settings,
-    own: Address,
-    number: u64,
-    tick: u32,
-    out: &mut [u8],
-) -> Host {
-    let answer = swim::create(settings, own, number);
-    let reply = answer.reply;
-    let node = answer.node;
+// A creation or a restart that succeeds ends what was lent before; one that is refused leaves no node.
+fn begin(mut host: Host, reply: Reply, node: Node, wait: Wait, out: &mut [u8]) -> Host {
     let at = put_reply(out, host.unwritten, reply);
-    let wait = Wait::new(tick);
     if is_refused(reply) {
         host.has_node = false;
         host.unwritten = at;
@@ -84,6 +75,54 @@ fn create(
         unwritten: at,
     };
     renewed.shown(node, wait, at, out)
+}
+
+fn create(
+    host: Host,
+    settings: Settings,
+    own: Address,
+    number: u64,
+    tick: u32,
+    out: &mut [u8],
+) -> Host {
+    let answer = swim::create(settings, own, number);
+    let reply = answer.reply;
+    let node = answer.node;
+    begin(host, reply, node, Wait::new(tick), out)
+}
+
+// A node from an image, whose bytes, so many, stand at the front of their row.
+fn restore(
+    host: Host,
+    settings: Settings,
+    tick: u32,
+    bytes: &[u8],
+    length: usize,
+    out: &mut [u8],
+) -> Host {
+    if length <= bytes.len() {
+        let restored = swim::saved::restore(&bytes[0..length], settings, tick);
+        let answer = restored.answer;
+        let wait = restored.wait;
+        let reply = answer.reply;
+        let node = answer.node;
+        return begin(host, reply, node, wait, out);
+    }
+    host.at_odds(out)
+}
+
+fn save(host: Host, room: usize, bytes: &mut [u8], out: &mut [u8]) -> Host {
+    if !host.has_node {
+        return host.without_node(out);
+    }
+    if room <= bytes.len() {
+        let node = host.node;
+        let wait = host.wait;
+        let saving = swim::saved::save(node, &mut bytes[0..room]);
+        let at = put_saving(out, host.unwritten, saving, bytes);
+        return host.shown(node, wait, at, out);
+    }
+    host.at_odds(out)
 }
 
 fn add(host: Host, peer: Address, number: u64, draws: &[u64], out: &mut [u8]) -> Host {
@@ -302,5 +341,7 @@ pub fn obey(
         Command::Why(event) => why(host, event, draws, out),
         Command::Read { places } => read_first(host, places, bytes, length, out),
         Command::Write { room, action } => write(host, room, action, records, bytes, out),
+        Command::Save { room } => save(host, room, bytes, out),
+        Command::Restore { settings, tick } => restore(host, settings, tick, bytes, length, out),
     }
 }

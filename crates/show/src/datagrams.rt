@@ -1,4 +1,4 @@
-// What the reader and the writer answered, as text.
+// What the reader, the writer and a save answered, as text.
 use crate::state::least;
 use incoming::Reading;
 use model::Reply;
@@ -9,6 +9,7 @@ use report::put_malformed;
 use report::put_record;
 use report::put_reply;
 use report::put_written;
+use saving::Saving;
 use types::Gossip;
 ghost use Prim.Native.Nat.{_≤_};
 
@@ -58,5 +59,13 @@ pub fn put_writing(out: &mut [u8], at: usize, writing: Writing, row: &[u8]) -> u
             put_front(out, told, row, length)
         }
         Writing::Refused(refusal) => put_reply(out, at, Reply::Refused(refusal)),
+    }
+}
+
+// The same of a saved list.
+pub fn put_saving(out: &mut [u8], at: usize, saving: Saving, row: &[u8]) -> usize {
+    match saving {
+        Saving::Whole(length) => put_writing(out, at, Writing::Whole(length), row),
+        Saving::Refused(refusal) => put_writing(out, at, Writing::Refused(refusal), row),
     }
 }

@@ -9,6 +9,7 @@ pub use answers::put_events;
 pub use answers::put_one;
 pub use answers::widen;
 pub use datagrams::put_reading;
+pub use datagrams::put_saving;
 pub use datagrams::put_writing;
 pub use reasons::put_grounds;
 pub use state::least;

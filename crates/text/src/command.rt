@@ -59,6 +59,13 @@ pub enum Command {
         room: usize,
         action: Action,
     },
+    Save {
+        room: usize,
+    },
+    Restore {
+        settings: Settings,
+        tick: u32,
+    },
 }
 
 // A command, and the place of the word after it.
@@ -67,7 +74,7 @@ pub struct Head {
     pub next: usize,
 }
 
-// The eight settings of a `new` line.
+// The eight settings of a `new` or a `restore` line.
 pub struct Ticks {
     pub values: [u32; 8],
     pub next: usize,
@@ -146,6 +153,35 @@ fn new_at(s: &[u8], at: usize) -> Head {
         own,
         number,
         tick,
+    };
+    Head { command, next }
+}
+
+// Settings and a tick; the image follows.
+fn restore_at(s: &[u8], at: usize) -> Head {
+    let ticks = ticks_at(s, at);
+    if !ticks.is_whole {
+        return malformed();
+    }
+    let values = ticks.values;
+    let TickAt::Found { value: tick, next } = tick_at(s, ticks.next) else {
+        return malformed();
+    };
+    let settings = settings_of(values);
+    let command = Command::Restore { settings, tick };
+    Head { command, next }
+}
+
+// A save is lent at most 65536 bytes.
+fn save_at(s: &[u8], at: usize) -> Head {
+    let NumberAt::Found { value: room, next } = number_at(s, at) else {
+        return malformed();
+    };
+    if 65536 < room {
+        return malformed();
+    }
+    let command = Command::Save {
+        room: room as usize,
     };
     Head { command, next }
 }
@@ -426,6 +462,12 @@ fn other_head(verb: &[u8], s: &[u8], at: usize) -> Head {
     }
     if check::same(verb, b"why") {
         return why_at(s, at);
+    }
+    if check::same(verb, b"save") {
+        return save_at(s, at);
+    }
+    if check::same(verb, b"restore") {
+        return restore_at(s, at);
     }
     message_at(verb, s, at)
 }

@@ -54,6 +54,11 @@ fn tail_of(command: Command) -> Tail {
         Command::Why(_) => Tail::Draws,
         Command::Read { places: _ } => Tail::Bytes,
         Command::Write { room: _, action: _ } => Tail::Records,
+        Command::Save { room: _ } => Tail::Nothing,
+        Command::Restore {
+            settings: _,
+            tick: _,
+        } => Tail::Bytes,
     }
 }
 

@@ -25,6 +25,7 @@ use Rattle.model.specs.Handler as handler
 use Rattle.model.specs.Detector as D
 use Rattle.model.specs.Sound as sounds
 use Rattle.model.specs.Calls as calls
+use Rattle.history.specs.Beginnings.{Creation}
 use Rattle.history.specs.Ledger.{Tally, tally, begun}
 use Rattle.history.specs.Histories.{World, Call, Add, Receive, Step, Timer, Lends, outcome, worldOf, moments, start}
 use Rattle.worked.specs.Cabinet.{own, B, C, settings}
@@ -97,7 +98,7 @@ follow (c ∷ h) w t =
 abbrev counted : ℕ → ℕ → ℕ → Bool → ℕ → Line
 counted e d r l n = record { entries = e; departures = d; reported = r; listed = l; number = n }
 
-pub worked-day : follow day (start ipv4 settings own 0 0) (begun ipv4 B own) ≡
+pub worked-day : follow day (start ipv4 (Creation settings own 0) 0) (begun ipv4 B (Creation settings own 0)) ≡
     (counted 1 0 0 true 4)
     ∷ (counted 1 0 0 true 4)
     ∷ (counted 1 0 0 true 4)

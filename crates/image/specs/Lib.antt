@@ -1,0 +1,4 @@
+pub mod Image
+pub mod Versions
+pub mod Views
+pub mod Round

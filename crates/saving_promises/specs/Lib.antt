@@ -1,0 +1,3 @@
+pub mod Exactly
+pub mod Restarts
+pub mod Worked
