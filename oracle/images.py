@@ -7,6 +7,9 @@ The script goes to crates/replay_saved/stdin, the answers to crates/replay_saved
 this is their judge: the layout is packed by hand, and each refusal is asked for in the order of the request."""
 import sys
 
+sys.dont_write_bytecode = True
+from salvage_answers import salvage
+
 SETTINGS = "10 10 10 10 1 3 6 1373"
 TICK = 7
 OWN, PEER, OTHER = 10 * 2**40 + 2**16 + 7000, 10 * 2**40 + 2 * 2**16 + 7000, 10 * 2**40 + 3 * 2**16 + 7000
@@ -70,6 +73,19 @@ class Host:
         told = ["= ok 0", "< " + image.hex()] if len(image) <= room else ["= refused 12"]
         self.answers += told + state(self.node)
 
+    def salvage(self, room, image):
+        """No node is needed, and no state follows."""
+        self.script.append(f"salvage {room} {image.hex() or '-'}")
+        result = salvage(image)
+        if not isinstance(result, int) and room < len(result[2]):
+            result = 12
+        if isinstance(result, int):
+            self.answers.append(f"= refused {result}")
+            return
+        count, letters, left = result
+        words = {"k": " kept", "a": " address", "s": " state", "r": " repeat", "c": " cut"}
+        self.answers += ["= ok 0", "< " + left.hex(), f"% {count}" + "".join(words[c] for c in letters)]
+
     def malformed(self, line):
         """A line that is not of the form, at its number."""
         self.script.append(line)
@@ -127,6 +143,32 @@ def told():
         turned = bytearray(good)
         turned[bit // 8] ^= 1 << bit % 8
         host.restore(bytes(turned))
+    host.remark("salvage: what restore accepts, with a room that is just enough and one short; the node stays")
+    for room in (len(good), len(good) - 1, 0, 65536):
+        host.salvage(room, good)
+    host.restore(good)
+    host.salvage(65536, packed(OTHER, [], 0))
+    host.save(65536)
+    host.remark("14, then 16, then 12")
+    for image in (b"", b"MBR\0", packed(OWN, two, 1, version=2), good[:5], good[:13], good[:14], packed(2**48, two, 0), packed(2**48 - 1, two, 0), good[:12] + b"\0"):
+        host.salvage(15, image)
+        host.salvage(65536, image)
+    host.remark("each word, a repeat of a dropped one, the first of two, positions")
+    bad, odd = (2**48, 0, 1), (OTHER, 3, 1)
+    for members in ([bad], [odd], [bad, (2**48, 3, 1)], [odd, (OTHER, 2, 9)], [(PEER, 0, 1), (PEER, 1, 2)], [(PEER, 0, 1), (PEER, 3, 2)], [odd, (PEER, 1, 2), bad, (PEER, 0, 1), (OWN, 2, 3)]):
+        for position in (0, 1, 2, 255):
+            host.salvage(1103, packed(OWN, members, position))
+    host.remark("counts over 64, places that are cut, what follows is ignored")
+    for count in (63, 64, 65, 255):
+        host.salvage(1103, packed(OWN, many[:count], 62))
+        host.salvage(1103, packed(OWN, many[:64], 63, count=count))
+        host.salvage(1103, packed(OWN, two, 1, count=count))
+    host.salvage(1103, good + b"\1\2\3")
+    host.salvage(1102, packed(OWN, many[:64], 63))
+    host.remark("lines that are not of the form")
+    for line in ("salvage", "salvage 10", "salvage 65537 4d", "salvage 10 4d |", "salvage - 4d", "salvage 10 4", "salvage 10 4D", "salvage 10 4d 4d"):
+        host.malformed(line)
+    host.save(65536)
     return host
 
 

@@ -139,23 +139,14 @@ module _ (bytes : List ℕ) where
   abbrev opens : Bool → Bool → Verdict
   opens a b = pick a (pick b Accepted WrongLength) WrongMark
 
-  unmarked-short : length bytes < 5 → marked v1 bytes ≡ false
+  pub unmarked-short : length bytes < 5 → false ≡ marked v1 bytes
   unfolding marked
-  unmarked-short h = ap (λ (u : Bool). u && eqb (numberOf (take 5 bytes)) (opening v1)) (lt-leb 5 (length bytes) h)
+  unmarked-short h = sym (ap (λ (u : Bool). u && eqb (numberOf (take 5 bytes)) (opening v1)) (lt-leb 5 (length bytes) h))
 
-  unmarked : (m : ℕ) → 5 ≤ length bytes → m ≡ numberOf (take 5 bytes) → (m ≡ opening v1 → ⊥) → marked v1 bytes ≡ false
+  pub marked-by : (m : ℕ) → 5 ≤ length bytes → m ≡ numberOf (take 5 bytes) → eqb m (opening v1) ≡ marked v1 bytes
   unfolding marked
-  unmarked m h e f =
-      ap (λ (u : Bool). u && eqb (numberOf (take 5 bytes)) (opening v1)) (le-leb 5 (length bytes) h)
-      ∙ ap (λ (k : ℕ). eqb k (opening v1)) (sym e)
-      ∙ ne-eqb m (opening v1) f
-
-  is-marked : (m : ℕ) → 5 ≤ length bytes → m ≡ numberOf (take 5 bytes) → m ≡ opening v1 → marked v1 bytes ≡ true
-  unfolding marked
-  is-marked m h e f =
-      ap (λ (u : Bool). u && eqb (numberOf (take 5 bytes)) (opening v1)) (le-leb 5 (length bytes) h)
-      ∙ ap (λ (k : ℕ). eqb k (opening v1)) (sym e)
-      ∙ eq-eqb m (opening v1) f
+  marked-by m h e =
+      sym (ap (λ (u : Bool). u && eqb (numberOf (take 5 bytes)) (opening v1)) (le-leb 5 (length bytes) h) ∙ ap (λ (k : ℕ). eqb k (opening v1)) (sym e))
 
   pub counted-is : counted v1 bytes ≡ numberOf (take 1 (drop 13 bytes))
   unfolding counted
@@ -177,19 +168,16 @@ module _ (bytes : List ℕ) where
   unfolding openingOf
   opening-by a b e f = sym (ap (λ (u : Bool). opens u (sized v1 bytes)) e ∙ ap (opens a) f)
 
-  pub opening-short : length bytes < 5 → WrongMark ≡ openingOf bytes
-  opening-short h = opening-by false (sized v1 bytes) (unmarked-short h) refl
+  pub opening-mark : marked v1 bytes ≡ false → WrongMark ≡ openingOf bytes
+  opening-mark e = opening-by false (sized v1 bytes) e refl
 
-  pub opening-mark : (m : ℕ) → 5 ≤ length bytes → m ≡ numberOf (take 5 bytes) → (m ≡ opening v1 → ⊥) → WrongMark ≡ openingOf bytes
-  opening-mark m h e f = opening-by false (sized v1 bytes) (unmarked m h e f) refl
+  pub opening-head : marked v1 bytes ≡ true → length bytes < 14 → WrongLength ≡ openingOf bytes
+  opening-head e k = opening-by true false e (unsized-short k)
 
-  pub opening-head : (m : ℕ) → 5 ≤ length bytes → m ≡ numberOf (take 5 bytes) → m ≡ opening v1 → length bytes < 14 → WrongLength ≡ openingOf bytes
-  opening-head m h e f k = opening-by true false (is-marked m h e f) (unsized-short k)
-
-  pub opening-size : (m n : ℕ) → 14 ≤ length bytes → m ≡ numberOf (take 5 bytes) → m ≡ opening v1 → n ≡ numberOf (take 1 (drop 13 bytes))
+  pub opening-size : (n : ℕ) → marked v1 bytes ≡ true → 14 ≤ length bytes → n ≡ numberOf (take 1 (drop 13 bytes))
       → (length bytes ≡ 14 + n * 17 + 1 → ⊥) → WrongLength ≡ openingOf bytes
-  opening-size m n h e f q k = opening-by true false (is-marked m (omega arith) e f) (sized-by n h q ∙ ne-eqb (length bytes) (14 + n * 17 + 1) k)
+  opening-size n e h q k = opening-by true false e (sized-by n h q ∙ ne-eqb (length bytes) (14 + n * 17 + 1) k)
 
-  pub opening-good : (m n : ℕ) → 14 ≤ length bytes → m ≡ numberOf (take 5 bytes) → m ≡ opening v1 → n ≡ numberOf (take 1 (drop 13 bytes))
+  pub opening-good : (n : ℕ) → marked v1 bytes ≡ true → 14 ≤ length bytes → n ≡ numberOf (take 1 (drop 13 bytes))
       → length bytes ≡ 14 + n * 17 + 1 → Accepted ≡ openingOf bytes
-  opening-good m n h e f q k = opening-by true true (is-marked m (omega arith) e f) (sized-by n h q ∙ eq-eqb (length bytes) (14 + n * 17 + 1) k)
+  opening-good n e h q k = opening-by true true e (sized-by n h q ∙ eq-eqb (length bytes) (14 + n * 17 + 1) k)

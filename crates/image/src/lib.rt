@@ -11,7 +11,7 @@ ghost use lib.Dec.{leb};
 ghost use Rattle.member.specs.Views.{toMember};
 ghost use Rattle.varint.specs.Laid.{Laid, Room};
 ghost use Rattle.numbers.specs.Codec.{getMany};
-ghost use Rattle.image.specs.Image.{entry, stateNumber, stateOf, image};
+ghost use Rattle.image.specs.Image.{entry, stateNumber, stateOf, image, marked};
 ghost use Rattle.image.specs.Versions.{v1};
 ghost use Rattle.image.specs.Views.{addressBytes, memberBytes, membersBytes, headBytes, savedAs, writtenOf, rowOf, placeOf, entryAt, rowsOf, openingOf, rowsInRule, judgedOf, nothing, loadedOf};
 
@@ -155,7 +155,8 @@ fn still(good: bool, state: u64) -> bool
     false
 }
 
-fn member_of(p: Place) -> Member
+// The record that a place says.
+pub fn member_of(p: Place) -> Member
     ensures { λ r. ⌜ r ≡ record { addr = p .addr; state = stateOf (p .state); number = p .number } ⌝ }
 {
     Member {
@@ -166,14 +167,15 @@ fn member_of(p: Place) -> Member
 }
 
 // The address that the bytes say from a place on.
-fn get_address(bytes: &[u8], at: usize) -> Address
+pub fn get_address(bytes: &[u8], at: usize) -> Address
     requires { ⌜ at + 8 ≤ length (now bytes) ⌝ }
     ensures { λ r. ⌜ r ≡ v1 .address .get (drop at (now (bytes .entry))) ⌝ }
 {
     numbers::get_number(bytes, at, Version1::ADDRESS)
 }
 
-fn get_place(bytes: &[u8], at: usize) -> Place
+// What stands in the bytes from a place on.
+pub fn get_place(bytes: &[u8], at: usize) -> Place
     requires { ⌜ at + 17 ≤ length (now bytes) ⌝ }
     ensures { λ r. ⌜ r ≡ placeOf (entryAt (now (bytes .entry)) at) ⌝ }
 {
@@ -205,14 +207,21 @@ fn get_rows(bytes: &[u8], n: usize) -> Rows
     Rows { table, order, good }
 }
 
+// 14: does it open with the mark and the version?
+pub fn is_marked(bytes: &[u8]) -> bool
+    ensures { λ r. ⌜ r ≡ marked v1 (now (bytes .entry)) ⌝ }
+{
+    if bytes.len() < 5 {
+        return false;
+    }
+    numbers::get_number(bytes, 0, 5) == Version1::OPENING
+}
+
 // 14 and 15: is it an image, and as long as it says?
 fn opening(bytes: &[u8]) -> Verdict
     ensures { λ r. ⌜ r ≡ openingOf (now (bytes .entry)) ⌝ }
 {
-    if bytes.len() < 5 {
-        return Verdict::WrongMark;
-    }
-    if numbers::get_number(bytes, 0, 5) != Version1::OPENING {
+    if !is_marked(bytes) {
         return Verdict::WrongMark;
     }
     if bytes.len() < Version1::HEAD {

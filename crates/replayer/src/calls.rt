@@ -12,6 +12,7 @@ use show::put_events;
 use show::put_grounds;
 use show::put_one;
 use show::put_reading;
+use show::put_salvaged;
 use show::put_saving;
 use show::put_writing;
 use show::widen;
@@ -121,6 +122,24 @@ fn save(host: Host, room: usize, bytes: &mut [u8], out: &mut [u8]) -> Host {
         let saving = swim::saved::save(node, &mut bytes[0..room]);
         let at = put_saving(out, host.unwritten, saving, bytes);
         return host.shown(node, wait, at, out);
+    }
+    host.at_odds(out)
+}
+
+fn salvage(mut host: Host, room: usize, image: &[u8], row: &mut [u8], out: &mut [u8]) -> Host {
+    if room <= row.len() {
+        let done = swim::salvaged::salvage(image, &mut row[0..room]);
+        host.unwritten = put_salvaged(out, host.unwritten, done, row);
+        return host;
+    }
+    host.at_odds(out)
+}
+
+// The image's bytes, so many, stand at the front of their row. No result is longer than 1103 bytes, so a row of 4096 stands for any longer one.
+fn salvage_first(host: Host, room: usize, bytes: &[u8], length: usize, out: &mut [u8]) -> Host {
+    if length <= bytes.len() {
+        let mut row = io::buffer();
+        return salvage(host, least(room, 4096), &bytes[0..length], &mut row, out);
     }
     host.at_odds(out)
 }
@@ -343,5 +362,6 @@ pub fn obey(
         Command::Write { room, action } => write(host, room, action, records, bytes, out),
         Command::Save { room } => save(host, room, bytes, out),
         Command::Restore { settings, tick } => restore(host, settings, tick, bytes, length, out),
+        Command::Salvage { room } => salvage_first(host, room, bytes, length, out),
     }
 }

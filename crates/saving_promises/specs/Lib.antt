@@ -1,3 +1,4 @@
 pub mod Exactly
 pub mod Restarts
 pub mod Worked
+pub mod Salvages

@@ -178,7 +178,7 @@ module _ (bytes : List ℕ) (settings : Settings) (tick : ℕ) (s : Restored) (t
   abbrev listed : Saved Addr
   listed = savedOf (fields v1 bytes)
 
-  facts : ListAccepted here here-lawful v1 Fits1 exact1 bytes settings
+  pub facts : ListAccepted here here-lawful v1 Fits1 exact1 bytes settings
   facts = restore-accepted bytes settings tick s told kept .0
 
   stored-there : storedView (s .answer .node) ≡ M.stored here (restoredNode here settings listed)

@@ -2,6 +2,7 @@
 mod answers;
 mod datagrams;
 mod reasons;
+mod salvaged;
 mod state;
 
 pub use answers::put_answer;
@@ -12,5 +13,6 @@ pub use datagrams::put_reading;
 pub use datagrams::put_saving;
 pub use datagrams::put_writing;
 pub use reasons::put_grounds;
+pub use salvaged::put_salvaged;
 pub use state::least;
 pub use state::put_state;

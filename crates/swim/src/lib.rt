@@ -1,5 +1,6 @@
 // What a host calls. The node goes in and comes back by value; the rows and the wait record are lent.
 pub mod lookup;
+pub mod salvaged;
 pub mod saved;
 
 use address::Address;

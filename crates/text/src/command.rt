@@ -66,6 +66,9 @@ pub enum Command {
         settings: Settings,
         tick: u32,
     },
+    Salvage {
+        room: usize,
+    },
 }
 
 // A command, and the place of the word after it.
@@ -181,6 +184,20 @@ fn save_at(s: &[u8], at: usize) -> Head {
         return malformed();
     }
     let command = Command::Save {
+        room: room as usize,
+    };
+    Head { command, next }
+}
+
+// A salvage is lent at most 65536 bytes; the image follows.
+fn salvage_at(s: &[u8], at: usize) -> Head {
+    let NumberAt::Found { value: room, next } = number_at(s, at) else {
+        return malformed();
+    };
+    if 65536 < room {
+        return malformed();
+    }
+    let command = Command::Salvage {
         room: room as usize,
     };
     Head { command, next }
@@ -468,6 +485,9 @@ fn other_head(verb: &[u8], s: &[u8], at: usize) -> Head {
     }
     if check::same(verb, b"restore") {
         return restore_at(s, at);
+    }
+    if check::same(verb, b"salvage") {
+        return salvage_at(s, at);
     }
     message_at(verb, s, at)
 }

@@ -59,6 +59,7 @@ fn tail_of(command: Command) -> Tail {
             settings: _,
             tick: _,
         } => Tail::Bytes,
+        Command::Salvage { room: _ } => Tail::Bytes,
     }
 }
 

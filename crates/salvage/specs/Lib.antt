@@ -1,0 +1,4 @@
+pub mod Salvage
+pub mod Views
+pub mod Rule
+pub mod Laws

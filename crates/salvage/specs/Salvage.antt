@@ -1,0 +1,113 @@
+-- "Salvage of a saved list": which places of an image are kept, what is said of each, and the list that is left. For any type of address and its bytes.
+-- Assumes nothing.
+use mathlib.Core.Bool.{Bool, not, _&&_}
+use mathlib.Core.List.{List, [], _∷_, _++_, map}
+use Prim.Native.Nat.{ℕ, zero, suc, _+_, _*_, _-_, min}
+use lib.ListN.{length, drop}
+use lib.Dec.{ltb, leb}
+use Rattle.model.specs.declared.Refusal.{Refusal}
+use Rattle.model.specs.declared.Refusal.the-variants.{NoRoom, WrongMark, OutOfRule}
+use Rattle.model.specs.Rows.{pick, has}
+use Rattle.model.specs.Bounds.{list-places}
+use Rattle.model.specs.Words.{Address}
+use Rattle.model.specs.Calls.{firstOf}
+use Rattle.numbers.specs.Codec.{number}
+use Rattle.image.specs.Image.{Form, Entry, head, entry, addrIn, memberOf, addressInRule, stateInRule, Saved, image, marked, counted}
+use Rattle.salvage.specs.declared.Word.{Word}
+use Rattle.salvage.specs.declared.Word.the-variants as word
+
+-- what comes back: the bytes written, the count as it stands and a word for each place; or why nothing was written
+pub data Ending : Type 0 where
+  salvaged : ℕ → ℕ → List Word → Ending
+  notSalvaged : Refusal → Ending
+
+pub record Salvage : Type 0 where
+  pub ends : Ending
+  pub row : List ℕ
+
+-- what is kept after a place
+abbrev pub after : {B : Type 0} → Word → List B → B → List B
+after word.Cut l x = l
+after word.Address l x = l
+after word.State l x = l
+after word.Repeat l x = l
+after word.Kept l x = l ++ (x ∷ [])
+
+module _ {A : Type 0} (address : Address A) (f : Form A) where
+  -- the bytes from a place on, and what stands there
+  abbrev pub from : List ℕ → ℕ → List ℕ
+  from bytes i = drop (head f .width + i * entry f .width) bytes
+
+  abbrev pub standsAt : List ℕ → ℕ → Entry A
+  standsAt bytes i = entry f .get (from bytes i)
+
+  -- "the first that holds of dropped for address, dropped for state, dropped as a repeat of a kept one, else kept"
+  unfoldable pub verdict : List A → Entry A → Word
+  verdict kept e =
+      pick (not (addressInRule address e)) word.Address
+      (pick (not (stateInRule address e)) word.State
+      (pick (has (address .same) (addrIn e) kept) word.Repeat
+      word.Kept))
+
+  -- "cut if its bytes are not all there": the word for a place, by the bytes from it on and the addresses kept before it
+  unfoldable pub wordOf : List A → List ℕ → Word
+  wordOf kept bytes = pick (ltb (length bytes) (entry f .width)) word.Cut (verdict kept (entry f .get bytes))
+
+  -- "keeps in order": what is kept of the first places
+  unfoldable pub keptOf : List ℕ → ℕ → List (Entry A)
+  keptOf bytes zero = []
+  keptOf bytes (suc i) = after (wordOf (map addrIn (keptOf bytes i)) (from bytes i)) (keptOf bytes i) (standsAt bytes i)
+
+  -- "It says for each record place"
+  unfoldable pub wordAt : List ℕ → ℕ → Word
+  wordAt bytes i = wordOf (map addrIn (keptOf bytes i)) (from bytes i)
+
+  unfoldable pub wordsOf : List ℕ → ℕ → List Word
+  wordsOf bytes zero = []
+  wordsOf bytes (suc i) = wordsOf bytes i ++ (wordAt bytes i ∷ [])
+
+  -- "A count over 64 is read as 64 and reported"
+  unfoldable pub places : List ℕ → ℕ
+  places bytes = min (counted f bytes) list-places
+
+  abbrev pub kept : List ℕ → List (Entry A)
+  kept bytes = keptOf bytes (places bytes)
+
+  abbrev pub words : List ℕ → List Word
+  words bytes = wordsOf bytes (places bytes)
+
+  -- "sets the position to 0 if it is out of range or missing": it stands after the places that are read, and where there is no byte 0 is read
+  unfoldable pub positionOf : List ℕ → ℕ → ℕ
+  positionOf bytes n = let p = number 1 .get bytes in pick (ltb p n) p 0
+
+  abbrev pub ownOf : List ℕ → A
+  ownOf bytes = head f .get bytes .second .first
+
+  -- the list that is left
+  unfoldable pub left : List ℕ → Saved A
+  left bytes =
+      record {
+        own = ownOf bytes;
+        rows = map memberOf (kept bytes);
+        position = positionOf (from bytes (places bytes)) (length (kept bytes));
+      }
+
+  -- "16 if the image has fewer than 14 bytes or its own address is out of range"
+  unfoldable pub headed : List ℕ → Bool
+  headed bytes = leb (head f .width) (length bytes) && address .valid (ownOf bytes)
+
+  -- "Refusals: 14 as before; then 16 ..; then 12"
+  abbrev pub salvageTests : List ℕ → ℕ → List (Bool × Refusal)
+  salvageTests bytes room =
+      (not (marked f bytes), WrongMark)
+      ∷ (not (headed bytes), OutOfRule)
+      ∷ (ltb room (length (image f (left bytes))), NoRoom)
+      ∷ []
+
+  -- refused, nothing is written; places past the last stay as lent
+  unfoldable pub salvage : List ℕ → List ℕ → Salvage
+  salvage bytes row =
+      let result = image f (left bytes) in
+      firstOf (salvageTests bytes (length row))
+      (λ r. record { ends = notSalvaged r; row = row })
+      (record { ends = salvaged (length result) (counted f bytes) (words bytes); row = result ++ drop (length result) row })

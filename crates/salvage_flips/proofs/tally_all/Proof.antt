@@ -1,0 +1,33 @@
+-- `tally_all` is safe and ends: the rows keep their lengths.
+-- Assumes nothing.
+use mathlib.Core.Path.{_≡_}
+use Prim.Native.Nat.{_-_, _≤_}
+use lib.ListN.{length}
+use borrow.Author.Needs.{needs}
+use Rattle.salvage_flips.proofs.tally_all.Statement.{statement}
+use Rattle.salvage_flips.proofs.tally_all.Tie as tie
+
+abbrev Inv-loop : tie.InvT-loop
+Inv-loop image₀ result₀ tally₀ bit₀ image result tally bit = (bit ≤ 8824) × (length image ≡ length image₀) × (length result ≡ length result₀)
+
+abbrev μ-loop : tie.MeasureT-loop
+μ-loop image₀ result₀ tally₀ bit₀ image result tally bit = 8824 - bit
+
+pub tally-all-spec : {M : Type 1} → statement M
+tally-all-spec =
+    tie.close
+    (tie.spec
+    Inv-loop
+    μ-loop
+    (λ c κs. search needs)
+    (λ c. search needs)
+    (λ c. search needs)
+    (λ c κs. search needs)
+    (λ c κs. search needs)
+    (λ c κs. search needs)
+    (λ c. search needs)
+    (λ c. search needs)
+    (λ c. search needs)
+    (λ c. search needs)
+    (λ c. search needs)
+    (λ c. search needs))
