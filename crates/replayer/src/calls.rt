@@ -1,6 +1,7 @@
 // A line's command, called and answered.
 use crate::host::Host;
 use crate::host::Rooms;
+use crate::tells::tell;
 use address::Address;
 use model::Reply;
 use model::Settings;
@@ -31,7 +32,7 @@ pub struct Rows {
 }
 
 // The places lent to a call that needs so many.
-fn rows_for(rooms: Rooms, gossip: usize, events: usize) -> Rows {
+pub fn rows_for(rooms: Rooms, gossip: usize, events: usize) -> Rows {
     match rooms {
         Rooms::AsNeeded => Rows { gossip, events },
         Rooms::Lent {
@@ -44,7 +45,7 @@ fn rows_for(rooms: Rooms, gossip: usize, events: usize) -> Rows {
     }
 }
 
-fn is_refused(reply: Reply) -> bool {
+pub fn is_refused(reply: Reply) -> bool {
     match reply {
         Reply::Done(_) => false,
         Reply::Already => false,
@@ -56,7 +57,7 @@ fn is_refused(reply: Reply) -> bool {
     }
 }
 
-// A creation or a restart that succeeds ends what was lent before; one that is refused leaves no node.
+// A creation or a restart that is refused leaves no node.
 fn begin(mut host: Host, reply: Reply, node: Node, wait: Wait, out: &mut [u8]) -> Host {
     let at = put_reply(out, host.unwritten, reply);
     if is_refused(reply) {
@@ -64,17 +65,7 @@ fn begin(mut host: Host, reply: Reply, node: Node, wait: Wait, out: &mut [u8]) -
         host.unwritten = at;
         return host;
     }
-    let renewed = Host {
-        node,
-        wait,
-        rooms: Rooms::AsNeeded,
-        has_node: true,
-        is_quiet: host.is_quiet,
-        has_ended: host.has_ended,
-        line: host.line,
-        kept: host.kept,
-        unwritten: at,
-    };
+    let renewed = host.renewed(node, wait);
     renewed.shown(node, wait, at, out)
 }
 
@@ -274,14 +265,14 @@ fn wait_state(phase: Phase) -> WaitState {
 }
 
 // Before there is a node, what is lent is forgotten: a creation starts afresh.
-fn lend_wait(mut host: Host, phase: Phase, tick: u32) -> Host {
+pub fn lend_wait(mut host: Host, phase: Phase, tick: u32) -> Host {
     let state = wait_state(phase);
     let wait = Wait { state, since: tick };
     host.wait = wait;
     host
 }
 
-fn lend_rows(host: Host, gossip: usize, events: usize) -> Host {
+pub fn lend_rows(host: Host, gossip: usize, events: usize) -> Host {
     let node = host.node;
     let wait = host.wait;
     Host {
@@ -290,7 +281,13 @@ fn lend_rows(host: Host, gossip: usize, events: usize) -> Host {
         rooms: Rooms::Lent { gossip, events },
         has_node: host.has_node,
         is_quiet: host.is_quiet,
+        is_numbered: host.is_numbered,
+        is_audit: host.is_audit,
+        is_watched: host.is_watched,
         has_ended: host.has_ended,
+        is_broken: host.is_broken,
+        calls: host.calls,
+        malformed: host.malformed,
         line: host.line,
         kept: host.kept,
         unwritten: host.unwritten,
@@ -333,8 +330,47 @@ fn write(
     host.at_odds(out)
 }
 
+// Is a line a call, which has an answer?
+fn is_call(command: Command) -> bool {
+    match command {
+        Command::Malformed => false,
+        Command::Wait { phase: _, tick: _ } => false,
+        Command::Rows {
+            gossip: _,
+            events: _,
+        } => false,
+        _ => true,
+    }
+}
+
 // Answers a line, whose bytes, so many, stand at the front of their row.
 pub fn obey(
+    host: Host,
+    command: Command,
+    records: Records,
+    draws: &[u64],
+    bytes: &mut [u8],
+    length: usize,
+    out: &mut [u8],
+) -> Host {
+    if host.is_audit {
+        return tell(host, command, records, draws, bytes, length, out);
+    }
+    if is_call(command) {
+        return answer(
+            host.called(out),
+            command,
+            records,
+            draws,
+            bytes,
+            length,
+            out,
+        );
+    }
+    answer(host, command, records, draws, bytes, length, out)
+}
+
+fn answer(
     host: Host,
     command: Command,
     records: Records,

@@ -3,6 +3,7 @@ use node::Node;
 use report::put_byte;
 use report::put_bytes;
 use report::put_marked;
+use report::put_number;
 use show::put_state;
 use wait::Wait;
 
@@ -18,7 +19,17 @@ pub struct Host {
     pub rooms: Rooms,
     pub has_node: bool,
     pub is_quiet: bool,
+    // The line's number stands before each answer.
+    pub is_numbered: bool,
+    // What is told is not the answers but what each call did to the list.
+    pub is_audit: bool,
+    // The number of lines so far goes to standard error now and then.
+    pub is_watched: bool,
     pub has_ended: bool,
+    // The input could not be read to its end.
+    pub is_broken: bool,
+    pub calls: u64,
+    pub malformed: u64,
     // The number of the line last read.
     pub line: u64,
     // How many bytes of a line are kept; more than there is room for if it is too long.
@@ -28,7 +39,7 @@ pub struct Host {
 }
 
 impl Host {
-    pub fn new(is_quiet: bool) -> Host {
+    pub fn new(is_quiet: bool, is_numbered: bool, is_audit: bool, is_watched: bool) -> Host {
         let node = Node::none();
         let wait = Wait::new(0);
         Host {
@@ -37,10 +48,37 @@ impl Host {
             rooms: Rooms::AsNeeded,
             has_node: false,
             is_quiet,
+            is_numbered,
+            is_audit,
+            is_watched,
             has_ended: false,
+            is_broken: false,
+            calls: 0,
+            malformed: 0,
             line: 0,
             kept: 0,
             unwritten: 0,
+        }
+    }
+
+    // A creation or a restart that succeeded ends what was lent before.
+    pub fn renewed(self, node: Node, wait: Wait) -> Host {
+        Host {
+            node,
+            wait,
+            rooms: Rooms::AsNeeded,
+            has_node: true,
+            is_quiet: self.is_quiet,
+            is_numbered: self.is_numbered,
+            is_audit: self.is_audit,
+            is_watched: self.is_watched,
+            has_ended: self.has_ended,
+            is_broken: self.is_broken,
+            calls: self.calls,
+            malformed: self.malformed,
+            line: self.line,
+            kept: self.kept,
+            unwritten: self.unwritten,
         }
     }
 
@@ -65,12 +103,31 @@ impl Host {
         self
     }
 
-    // A line that is not of the form.
-    pub fn at_odds(mut self, out: &mut [u8]) -> Host {
-        let mark = put_byte(out, self.unwritten, b'?');
-        let number = put_marked(out, mark, b' ', self.line);
-        let end = put_byte(out, number, b'\n');
-        self.unwritten = end;
+    // The line's number stands before an answer, where that is asked for.
+    fn numbered(mut self, out: &mut [u8]) -> Host {
+        if !self.is_numbered {
+            return self;
+        }
+        let number = put_number(out, self.unwritten, self.line);
+        let start = put_byte(out, number, b' ');
+        self.unwritten = start;
         self
+    }
+
+    // A call, before it is answered.
+    pub fn called(mut self, out: &mut [u8]) -> Host {
+        self.calls = std::num::wrapping_add_u64(self.calls, 1);
+        self.numbered(out)
+    }
+
+    // A line that is not of the form.
+    pub fn at_odds(self, out: &mut [u8]) -> Host {
+        let mut host = self.numbered(out);
+        host.malformed = std::num::wrapping_add_u64(host.malformed, 1);
+        let mark = put_byte(out, host.unwritten, b'?');
+        let number = put_marked(out, mark, b' ', host.line);
+        let end = put_byte(out, number, b'\n');
+        host.unwritten = end;
+        host
     }
 }

@@ -1,8 +1,12 @@
 // Standard input, cut into lines.
 use crate::calls::obey;
 use crate::host::Host;
+use crate::tells::put_old;
+use libc::STDERR_FILENO;
 use libc::STDIN_FILENO;
 use report::flush;
+use report::put_bytes;
+use report::put_number;
 use text::read_line;
 use words::find;
 ghost use mathlib.Core.Path.{_≡_};
@@ -136,7 +140,57 @@ fn answer_chunk(
     let mut after = take_chunk(host, chunk, line, out, draws, bytes);
     let at = flush(out, after.unwritten);
     after.unwritten = at;
+    put_progress(after.is_watched, after.line, out);
     after
+}
+
+// What has gathered goes to standard error.
+fn warn(out: &mut [u8], at: usize) {
+    if at <= out.len() {
+        io::write_all(STDERR_FILENO, &out[0..at]);
+    }
+}
+
+// How far it is, if somebody watches.
+fn put_progress(is_watched: bool, line: u64, out: &mut [u8]) {
+    if !is_watched {
+        return;
+    }
+    let number = put_number(out, 0, line);
+    let end = put_bytes(out, number, b" lines so far\n");
+    warn(out, end);
+}
+
+// How many lines, calls and malformed lines there were.
+fn put_counts(host: Host, at: usize, out: &mut [u8]) -> usize {
+    let lines = put_number(out, at, host.line);
+    let first = put_bytes(out, lines, b" lines, ");
+    let calls = put_number(out, first, host.calls);
+    let second = put_bytes(out, calls, b" calls, ");
+    let malformed = put_number(out, second, host.malformed);
+    let end = put_bytes(out, malformed, b" malformed\n");
+    put_broken(out, end, host.is_broken)
+}
+
+fn put_broken(out: &mut [u8], at: usize, is_broken: bool) -> usize {
+    if is_broken {
+        return put_bytes(out, at, b"the input cannot be read\n");
+    }
+    at
+}
+
+// The last words: to standard error, or behind the facts of an audit with who is listed in the end.
+fn sum_up(host: Host, out: &mut [u8]) {
+    if host.is_audit {
+        let listed = put_old(out, host.unwritten, host.line, host.node, host.has_node);
+        let mark = put_bytes(out, listed, b". ");
+        let end = put_counts(host, mark, out);
+        flush(out, end);
+        return;
+    }
+    let start = flush(out, host.unwritten);
+    let end = put_counts(host, start, out);
+    warn(out, end);
 }
 
 // Reads once and answers the lines that end there.
@@ -148,9 +202,11 @@ fn read_some(
     draws: &mut [u64],
     bytes: &mut [u8],
 ) -> Host {
-    let got = io::count(libc::read(STDIN_FILENO, chunk), chunk);
+    let answer = libc::read(STDIN_FILENO, chunk);
+    let got = io::count(answer, chunk);
     if got == 0 {
         host.has_ended = true;
+        host.is_broken = answer < 0;
         return host;
     }
     answer_chunk(host, &chunk[..got], line, out, draws, bytes)
@@ -181,44 +237,70 @@ fn answer_all(
 fn end_input(host: Host, line: &mut [u8], out: &mut [u8], draws: &mut [u64], bytes: &mut [u8]) {
     let kept = host.kept;
     if kept == 0 {
+        sum_up(host, out);
         return;
     }
     let last = end_line(host, kept, line, out, draws, bytes);
-    flush(out, last.unwritten);
+    sum_up(last, out);
 }
 
 fn replay(
-    is_quiet: bool,
+    host: Host,
     chunk: &mut [u8],
     line: &mut [u8],
     out: &mut [u8],
     draws: &mut [u64],
     bytes: &mut [u8],
 ) {
-    let host = Host::new(is_quiet);
     let after = answer_all(host, chunk, line, out, draws, bytes);
     end_input(after, line, out, draws, bytes);
 }
 
-fn is_quiet() -> bool {
-    let mut word = [0u8; 8];
-    let length = os::arg(1, &mut word);
-    check::same(&word[..length], b"quiet")
+// Is an argument that word?
+fn is_arg(i: usize, name: &[u8]) -> bool {
+    let mut word = [0u8; 16];
+    let length = os::arg(i, &mut word);
+    check::same(&word[..length], name)
 }
 
-// Answers standard input to its end. The argument `quiet` leaves the states out.
-pub fn run() {
+// Is a word among the first three arguments?
+fn is_given(name: &[u8]) -> bool {
+    if is_arg(1, name) {
+        return true;
+    }
+    if is_arg(2, name) {
+        return true;
+    }
+    is_arg(3, name)
+}
+
+fn start(host: Host) {
     let mut chunk = io::large_buffer();
     let mut line = io::large_buffer();
     let mut out = io::large_buffer();
     let mut draws = [0u64; 1024];
     let mut bytes = io::large_buffer();
     replay(
-        is_quiet(),
+        host,
         &mut chunk,
         &mut line,
         &mut out,
         &mut draws,
         &mut bytes,
     );
+}
+
+// Answers standard input to its end. The argument `quiet` leaves the states out, `numbered` puts the line's number before each answer.
+pub fn run() {
+    start(Host::new(
+        is_given(b"quiet"),
+        is_given(b"numbered"),
+        false,
+        is_given(b"progress"),
+    ));
+}
+
+// Tells of standard input, to its end, what each call did to the list.
+pub fn audit() {
+    start(Host::new(true, false, true, is_given(b"progress")));
 }

@@ -92,7 +92,7 @@ pub fn put_entry(out: &mut [u8], at: usize, event: Event, sends: u64, size: u64)
     put_marked(out, sent, b'/', size)
 }
 
-fn state_letter(state: State) -> u8 {
+pub fn state_letter(state: State) -> u8 {
     match state {
         State::Alive => b'a',
         State::Pending => b'p',
