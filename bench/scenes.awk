@@ -10,7 +10,7 @@ BEGIN {
   heap_count = split(wide ? "0 61" : "0 50 122", heaps, " ")
   # As many records as a message of the common setting carries, or as any can.
   records = wide ? 64 : 6
-  settings = wide ? "10 10 10 10 4 8 64 1373" : "10 10 10 10 3 3 6 1373"
+  settings = wide ? "10 10 10 10 4 8 64 1373" : "10 10 10 10 3 3 6 1169"
   for (k = 1; k <= kind_count; k++)
     for (s = 1; s <= size_count; s++)
       for (h = 1; h <= heap_count; h++) {

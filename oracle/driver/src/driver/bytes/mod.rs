@@ -3,7 +3,7 @@
 mod fields;
 mod packets;
 mod spoil;
-mod texts;
+pub mod texts;
 
 use std::io::{self, Write};
 

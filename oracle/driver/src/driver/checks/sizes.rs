@@ -1,6 +1,7 @@
 //! `sizes N`: the size rule of a gossip against prost's `encoded_len`.
 use prost::Message;
 
+use crate::driver::bytes::texts;
 use crate::driver::convert;
 use crate::driver::rng::Rng;
 use crate::driver::words::{Address, Kind, Record, ADDRESS_LIMIT};
@@ -91,12 +92,15 @@ fn varint_length(number: u64) -> usize {
     (number.max(1).ilog2() / 7 + 1) as usize
 }
 
-/// Four bytes of the ip and the port in decimal, three dots and a colon.
+/// Of IPv4 four bytes of the ip and the port in decimal, three dots and a colon; of IPv6 what the standard library writes.
 fn text_length(address: Address) -> usize {
-    let ip = address >> 16;
+    if address.family == 6 {
+        return convert::text(address).len();
+    }
+    let ip = address.low;
     let bytes = [ip >> 24 & 255, ip >> 16 & 255, ip >> 8 & 255, ip & 255];
     let ip_digits: usize = bytes.iter().map(|byte| digits(*byte)).sum();
-    ip_digits + 4 + digits(address & 65535)
+    ip_digits + 4 + digits(u64::from(address.port))
 }
 
 fn digits(number: u64) -> usize {
@@ -114,7 +118,7 @@ fn edge_addresses() -> Vec<Address> {
             found.push(byte << (16 + 8 * place));
         }
     }
-    found
+    found.into_iter().map(Address::four).collect()
 }
 
 /// Both sides of every change of a varint's length.
@@ -137,13 +141,16 @@ fn random_record(rng: &mut Rng) -> Record {
 
 /// Each part is shortened at random, so that every text length comes up.
 fn random_address(rng: &mut Rng) -> Address {
+    if rng.chance(50) {
+        return texts::six(rng);
+    }
     let mut address = 0;
     for _ in 0..4 {
         let limit = *rng.pick(&[10, 100, 256]);
         address = (address << 8) | rng.below(limit);
     }
     let limit = *rng.pick(&[10, 100, 1000, 10000, 65536]);
-    (address << 16) | rng.below(limit)
+    Address::four((address << 16) | rng.below(limit))
 }
 
 fn random_number(rng: &mut Rng) -> u64 {
