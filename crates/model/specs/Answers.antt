@@ -8,7 +8,7 @@ use Rattle.model.specs.declared.Kind.the-variants as kind
 use Rattle.model.specs.declared.Refusal.{Refusal}
 use Rattle.model.specs.declared.Refusal.the-variants.{Setting, Unsound, ShortRow, ManyRecords, AddressRange, NumberEnd, ListFull, DrawsShort, AliveFull, TimersFull, Malformed, NoRoom, DeceasedFull, WrongMark, WrongLength, OutOfRule}
 
--- the table: the number of each refusal. A node's calls give 1 to 10 and 13; 11 and 12 are of bytes that are no datagram, and of bytes that the lent row has no room for
+-- the table: the number of each refusal. A node's calls give 1 to 10 and 13; 11 is of bytes that are no datagram, 12 of bytes that the lent row has no room for, 14 to 16 of bytes that are no saved list
 abbrev pub numberOf : Refusal → ℕ
 numberOf Setting = 1
 numberOf Unsound = 2
