@@ -3,7 +3,7 @@
 BEGIN {
   size_count = split("8 32 64", sizes, " ")
   for (s = 1; s <= size_count; s++) {
-    print "new 10 10 10 10 3 3 6 1373 1 0 0"
+    print "new 10 10 10 10 3 3 6 1169 1 0 0"
     for (i = 2; i <= sizes[s]; i++) print "add " i " 0 | " i * 7919
     print "#! lamps " sizes[s]
     for (i = 1; i <= 1001; i++) print "timer 5"

@@ -1,11 +1,7 @@
 # Makes of the facts that the program `audit` tells the lines that people read: every entry and departure with its cause.
-# -v asked="ADDRESS .." whom to tell of, all where it is empty; -v older=1 also the death notices that removed nobody; -v dotted=1 addresses as a.b.c.d:port;
+# -v asked="ADDRESS .." whom to tell of, all where it is empty; -v older=1 also the death notices that removed nobody; -v dotted=1 addresses as texts. Behind address.awk;
 # -v many=1 several histories, each behind a line `history FILE`, whose departures by notice are followed back.
-function dots(a, ip) {
-  if (!dotted || length(a) > 15 || a + 0 >= 281474976710656) return a
-  ip = (a - a % 65536) / 65536
-  return int(ip / 16777216) "." int(ip / 65536) % 256 "." int(ip / 256) % 256 "." ip % 256 ":" a % 65536
-}
+function dots(a) { return dotted ? spelled(a) : a }
 
 # numbers of up to 20 digits are compared as they are written
 function below(a, b) { return length(a) != length(b) ? length(a) < length(b) : (a "") < (b "") }

@@ -8,6 +8,9 @@ nodes=50
 calls=10000
 lines=20000
 
+# Or this many lines of 130 addresses of IPv6.
+texts=1000
+
 # So many seeds at a time.
 jobs=${JOBS:-2}
 
@@ -67,6 +70,18 @@ compare_bytes() {
   compare_one "$script" "seed $1 (oracle bytes $1 $lines)"
   rm "$script.tally"
   echo "seed $1: $lines lines of bytes, no difference"
+}
+
+# Texts and lengths of structured addresses of IPv6 on seed $1, written and then read.
+compare_texts() {
+  local script=$folder/addresses.$1
+  "$oracle" addresses "$1" $texts >"$script"
+  answer_same "$script" "seed $1 (oracle addresses $1 $texts)"
+  [ "$(grep -c '^<' "$script.oracle")" = $texts ] || fail "not every line of oracle addresses $1 $texts was written"
+  sed 's/^< /read 64 /' "$script.oracle" >"$script.read"
+  compare_one "$script.read" "what was written on seed $1 (oracle addresses $1 $texts)"
+  rm "$script" "$script.oracle" "$script.replay"
+  echo "seed $1: $((texts * 130)) addresses of IPv6 written and read, no difference"
 }
 
 # What the calls of script $1 hear, as prost writes it, is read by the other program.

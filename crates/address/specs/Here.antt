@@ -5,29 +5,28 @@ use mathlib.Core.List.{List}
 use Prim.Native.Nat.{ℕ, _≤_}
 use lib.ListN.{length}
 use Rattle.model.specs.Words.{Address, Lawful}
-use Rattle.address.specs.IPv4.{ipv4, ipv4-lawful, drawer}
-use Rattle.address.specs.Text.{text}
-use Rattle.address.specs.TextLaws.{text-length, text-is-long}
+use Rattle.address.specs.declared.Address as declared
+use Rattle.address.specs.Families.{families, families-lawful, textOf, text-of-long, chars-of-bounds, drawerOf}
 
 abbrev pub Addr : Type 0
-Addr = ℕ
+Addr = declared.Address
 
 abbrev pub here : Address Addr
-here = ipv4
+here = families
 
 pub here-lawful : Lawful here
-here-lawful = ipv4-lawful
+here-lawful = families-lawful
 
 -- where it is sought in a row
 abbrev pub here-drawer : Addr → ℕ
-here-drawer = drawer
+here-drawer = drawerOf
 
 -- its text, byte by byte, and how long that is
 abbrev pub here-text : Addr → List ℕ
-here-text = text
+here-text = textOf
 
 pub here-text-long : (a : Addr) → length (here-text a) ≡ here .chars a
-here-text-long = text-is-long
+here-text-long = text-of-long
 
-pub here-chars : (a : Addr) → (9 ≤ here .chars a) × (here .chars a ≤ 21)
-here-chars = text-length
+pub here-chars : (a : Addr) → (6 ≤ here .chars a) × (here .chars a ≤ 47)
+here-chars = chars-of-bounds

@@ -1,4 +1,5 @@
 pub mod IPv4
 pub mod Text
 pub mod TextLaws
+pub mod Families
 pub mod Here

@@ -4,3 +4,4 @@ pub mod Least
 pub mod Exactly
 pub mod Back
 pub mod Malformed
+pub mod Rfc5952

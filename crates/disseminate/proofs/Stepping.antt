@@ -53,15 +53,15 @@ module _ (h : Heap) (p : Packed h) (held : 0 < h .len) where
       ∙ ap (λ (e : W.Entry Addr). e ∷ drop 1 (heapView h))
       (List·getD-map toEntry (take (h .len) (h .entries)) 0 noEntry ∙ ap toEntry (getD-take (h .len) (h .entries) 0 noEntry held))
 
-  pub top-most : (k : Kind) → GoodHeap here k (heapView h) → (topOf h .size ≤ 59) × (topOf h .sends ≤ 22)
+  pub top-most : (k : Kind) → GoodHeap here k (heapView h) → (topOf h .size ≤ 111) × (topOf h .sends ≤ 22)
   top-most k g =
       let s : every (soundEntry here k) (toEntry (topOf h) ∷ drop 1 (heapView h)) ≡ true = rw top-view at (g .entries) in
       sound-most k (toEntry (topOf h)) (and-split (soundEntry here k (toEntry (topOf h))) (every (soundEntry here k) (drop 1 (heapView h))) s .0)
 
-  pub top-least : every (atLeast here 24) (heapView h) ≡ true → 24 ≤ topOf h .size
+  pub top-least : every (atLeast here 18) (heapView h) ≡ true → 18 ≤ topOf h .size
   top-least g =
-      let s : every (atLeast here 24) (toEntry (topOf h) ∷ drop 1 (heapView h)) ≡ true = rw top-view at g in
-      leb-true 24 (topOf h .size) (and-split (atLeast here 24 (toEntry (topOf h))) (every (atLeast here 24) (drop 1 (heapView h))) s .0)
+      let s : every (atLeast here 18) (toEntry (topOf h) ∷ drop 1 (heapView h)) ≡ true = rw top-view at g in
+      leb-true 18 (topOf h .size) (and-split (atLeast here 18 (toEntry (topOf h))) (every (atLeast here 18) (drop 1 (heapView h))) s .0)
 
 -- neither of two tests passed
 pub or-left : (u v : Bool) → (u || v) ≡ false → u ≡ false
@@ -99,7 +99,7 @@ module _ (t : Terms) (h : Heap) (n : Chosen) (o : Open t h n) where
     pub top-small : (topOf h .size ≤ greatest-size) × (topOf h .sends ≤ 22)
     top-small = let m = o .top held in (omega (arith, m .1), m .2)
 
-    -- an entry of 24 bytes that is not stopped finds room: 57 of them are the most
+    -- an entry of 18 bytes that is not stopped finds room: 64 of them are the most
     pub finds-room : barrier ≡ false → Room n (topOf h)
     finds-room b =
         let f : n .size + topOf h .size ≤ t .«max_size» = ltb-false (t .«max_size») (n .size + topOf h .size) (or-left _ _ b) in
@@ -177,7 +177,7 @@ with-deceased c x =
 
 -- a choosing that is ready may try either heap
 module _ (t : Terms) (c : Choice) (r : Ready t c) where
-  open-at : (k : Kind) (h : Heap) → Packed h → GoodHeap here k (heapView h) → every (atLeast here 24) (heapView h) ≡ true → Open t h (c .chosen)
+  open-at : (k : Kind) (h : Heap) → Packed h → GoodHeap here k (heapView h) → every (atLeast here 18) (heapView h) ≡ true → Open t h (c .chosen)
   open-at k h p g l =
       record {
         heap = p;

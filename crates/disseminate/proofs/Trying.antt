@@ -49,7 +49,7 @@ module _ (t : Terms) (size : ℕ) (noted : List (W.Gossip Addr × ℕ)) where
 module _ (t : Terms) (limited : t .limit ≤ 23) where
   living-more : (c : Choice Addr) (k : Taken Addr) → Kept t c → Gave here t (c .size) (c .alive) k → Kept t (afterAlive here c (some k))
   living-more c k p v =
-      let r = taken-least here 24 t (c .size) (c .alive) k (p .within .alive) v in
+      let r = taken-least here 18 t (c .size) (c .alive) k (p .within .alive) v in
       let l = length-append (c .chosen) (k .gossip ∷ []) in
       record {
         heaps = record { alive = taken-good here kind.Alive t (c .size) (c .alive) k limited (p .heaps .alive) v; deceased = p .heaps .deceased };
@@ -65,7 +65,7 @@ module _ (t : Terms) (limited : t .limit ≤ 23) where
 
   dead-more : (c : Choice Addr) (k : Taken Addr) → Kept t c → Gave here t (c .size) (c .deceased) k → Kept t (afterDeceased here c (some k))
   dead-more c k p v =
-      let r = taken-least here 24 t (c .size) (c .deceased) k (p .within .deceased) v in
+      let r = taken-least here 18 t (c .size) (c .deceased) k (p .within .deceased) v in
       let l = length-append (c .chosen) (k .gossip ∷ []) in
       record {
         heaps = record { alive = p .heaps .alive; deceased = taken-good here kind.Deceased t (c .size) (c .deceased) k limited (p .heaps .deceased) v };
@@ -150,7 +150,7 @@ module _ (t : Terms) (m : Choice Addr) where
       stepped f false true p (either (gave here first) (gave here second) (λ z. n (omega (arith, taken-by first second))))
 
 -- what a sound entry is
-sized : (k : Kind) (e : W.Event Addr) → sizeOf here (record { event = e }) ≤ 59
+sized : (k : Kind) (e : W.Event Addr) → sizeOf here (record { event = e }) ≤ 111
 unfolding sizeOf
 sized k W.Nothing = omega arith
 sized k (W.Joined f s n) = size-over-here f s n .1
@@ -158,7 +158,7 @@ sized k (W.Recovered f s n) = size-over-here f s n .1
 sized k (W.Suspected f s n) = size-over-here f s n .1
 sized k (W.Deceased f s n) = size-over-here f s n .1
 
-pub sound-most : (k : Kind) (e : W.Entry Addr) → soundEntry here k e ≡ true → (e .size ≤ 59) × (e .sends ≤ 22)
+pub sound-most : (k : Kind) (e : W.Entry Addr) → soundEntry here k e ≡ true → (e .size ≤ 111) × (e .sends ≤ 22)
 unfolding soundEntry
 sound-most k e s =
     let kind : Bool = ofKind k (partsOf here (e .gossip .event) .kind) in

@@ -1,4 +1,4 @@
--- How many gossip records a message has at most, by the least size of one: 57 at IPv4 addresses, so that 64 places are enough.
+-- How many gossip records a message has at most, by the least size of one: 64 of 18 bytes, so that 64 places and 64 rounds are enough.
 -- Assumes nothing.
 use mathlib.Core.Path.{_≡_, refl, ap, sym, _∙_}
 use mathlib.Core.Bool.{Bool, true, false, _&&_}
@@ -22,9 +22,9 @@ use Rattle.types.specs.SizeLaws.{size-over-here}
 use Rattle.laws_choose.specs.GoodHeap.{GoodHeap}
 use Rattle.laws_choose.specs.ChooseLaws.{atLeast, rounds-enough, chosen-fit}
 
--- "From 24 to 59": no record that is held has fewer bytes
+-- "From 18 to 111": no record that is held has fewer bytes
 abbrev pub least-gossip : ℕ
-least-gossip = 24
+least-gossip = 18
 
 -- so many are chosen for a message at most
 abbrev pub most-chosen : ℕ
@@ -61,15 +61,15 @@ pub few-chosen : (t : Terms) (alive deceased : List (Entry Addr)) → t .max-siz
 few-chosen t alive deceased h g k =
     omega (arith, chosen-fit here least-gossip t alive deceased (heap-least kind.Alive alive g) (heap-least kind.Deceased deceased k))
 
--- so no round past one more than that is the first to change something: any number of rounds beyond gives the same choice
-pub choose-enough : (t : Terms) (alive deceased : List (Entry Addr)) (f : ℕ) → most-chosen < f → t .max-size ≤ greatest-size → GoodHeap here kind.Alive alive → GoodHeap here kind.Deceased deceased
+-- so no round past as many changes anything: any number of rounds beyond gives the same choice
+pub choose-enough : (t : Terms) (alive deceased : List (Entry Addr)) (f : ℕ) → most-chosen ≤ f → t .max-size ≤ greatest-size → GoodHeap here kind.Alive alive → GoodHeap here kind.Deceased deceased
     → rounds here f t (begin here alive deceased) ≡ choose here t alive deceased
 unfolding choose
 choose-enough t alive deceased f h s g k = enough f h ∙ sym (enough 64 (omega arith))
   where
-    enough : (n : ℕ) → most-chosen < n → rounds here n t (begin here alive deceased) ≡ rounds here (most-chosen + 1) t (begin here alive deceased)
+    enough : (n : ℕ) → most-chosen ≤ n → rounds here n t (begin here alive deceased) ≡ rounds here most-chosen t (begin here alive deceased)
     enough n l =
-        rounds-enough here least-gossip t (most-chosen + 1) (λ c w. omega (arith, w .counted, w .fits)) (most-chosen + 1) n (begin here alive deceased)
+        rounds-enough here least-gossip t most-chosen (λ c w. omega (arith, w .counted, w .fits)) most-chosen n (begin here alive deceased)
         (record { alive = heap-least kind.Alive alive g; deceased = heap-least kind.Deceased deceased k; counted = omega arith; fits = omega arith })
         (omega arith)
         l

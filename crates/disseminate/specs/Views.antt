@@ -171,19 +171,19 @@ abbrev pub NotedIf : Bool → Chosen → Entry → Chosen → Type 0
 NotedIf false n e r = r ≡ n
 NotedIf true n e r = NotedOne n (toGossip (e .gossip)) (e .sends + 1) (e .size) r
 
--- what a try asks for: the heap's top is an entry as a good heap holds them, and what is chosen fits, 24 bytes each at least
+-- what a try asks for: the heap's top is an entry as a good heap holds them, and what is chosen fits, 18 bytes each at least
 pub record Open (t : Terms) (h : Heap) (n : Chosen) : Type 0 where
   pub heap : Packed h
-  pub top : 0 < h .len → (24 ≤ topOf h .size) × (topOf h .size ≤ 59) × (topOf h .sends ≤ 22)
+  pub top : 0 < h .len → (18 ≤ topOf h .size) × (topOf h .size ≤ 111) × (topOf h .sends ≤ 22)
   pub chosen : PackedChosen n
-  pub counted : 24 * n .count ≤ n .size
+  pub counted : 18 * n .count ≤ n .size
   pub fits : n .size ≤ t .«max_size»
   pub size : t .«max_size» ≤ greatest-size
 
--- what holds of a choosing at each step: good heaps, and chosen gossip that fits, 24 bytes each at least
+-- what holds of a choosing at each step: good heaps, and chosen gossip that fits, 18 bytes each at least
 pub record Kept (t : M.Terms) (m : M.Choice Addr) : Type 0 where
   pub heaps : GoodHeaps here m
-  pub within : Within here 24 t m
+  pub within : Within here 18 t m
   pub living : m .from-alive ≤ length (m .chosen)
   pub dead : m .from-deceased ≤ length (m .chosen)
 

@@ -49,7 +49,7 @@ pub text-field : (n : ℕ) (a : Addr) (rest : List ℕ) → here .valid a ≡ tr
 text-field n a rest h =
     let e = content-delimited n (text a) rest in
     sym (text-read (delimited n (text a) ++ rest) (delimitedField n (text a)) true (Given a) refl
-    (sym (ap utf8 e ∙ text-utf8 a)) refl (sym (ap textOf e ∙ text-back a h)))
+    (sym (ap utf8 e ∙ text-utf8 a h)) refl (sym (ap textOf e ∙ text-back a h)))
 
 -- a text field that is written, before anything else
 module _ {S : Type 0} (step : Step S) (n : ℕ) (a : Addr) (h : 1 ≤ n) (k : n < 2 ^ 29) where

@@ -35,8 +35,8 @@ use Rattle.fits.specs.Sizes.{sizes, lengthOf}
 abbrev pub sizesOf : List Gossip → ℕ
 sizesOf gs = sizes here (map toGossip gs)
 
--- a gossip has as many bytes as its size says, and no more than 59
-bytes-size : (e : Event) → Fit e → (length (gossipBytesOf (record { event = e })) ≡ sizeOf here (toGossip (record { event = e }))) × (sizeOf here (toGossip (record { event = e })) ≤ 59)
+-- a gossip has as many bytes as its size says, and no more than 111
+bytes-size : (e : Event) → Fit e → (length (gossipBytesOf (record { event = e })) ≡ sizeOf here (toGossip (record { event = e }))) × (sizeOf here (toGossip (record { event = e })) ≤ 111)
 unfolding Fit gossipBytesOf sizeOf
 bytes-size Nothing f = (refl, lit≤ tt)
 bytes-size (Joined f s n) (hf, hs, hn) = (here-size (kind 1) f s n (kinds-small 1 (lit≤ tt)) hn, size-over-here f s n .1)
@@ -53,13 +53,13 @@ gossip-size (g ∷ gs) (more f fs) =
     let k : length (gossipBytesOf g) < 128 = omega (arith, b .0, b .1) in
     omega (arith, b .0, length-append (delimited 3 (gossipBytesOf g)) (gossipFields gs), short 3 (gossipBytesOf g) (lit≤ tt) k, gossip-size gs fs)
 
-text-size : (n : ℕ) (a : Addr) → n ≤ 15 → length (string n (text a)) ≤ 23
+text-size : (n : ℕ) (a : Addr) → n ≤ 15 → length (string n (text a)) ≤ 49
 text-size n a h =
-    let t : length (text a) ≤ 21 = omega (arith, here-chars a, here-text-long a) in
+    let t : length (text a) ≤ 47 = omega (arith, here-chars a, here-text-long a) in
     let k : length (text a) < 128 = omega arith in
     omega (arith, ap (λ (l : List ℕ). length l) (string-some n (text a) (text-long a)), short n (text a) h k)
 
-other-size : (o : Optional) → length (otherBytes o) ≤ 23
+other-size : (o : Optional) → length (otherBytes o) ≤ 49
 unfolding otherBytes
 other-size optional.Absent = omega arith
 other-size (optional.Given b) = text-size 2 b (lit≤ tt)
@@ -72,7 +72,7 @@ varint-two n h = by (ltb n 128) refl
     by true e = omega (arith, varint-one n (ltb-true n 128 e))
     by false e = omega (arith, ap (λ (l : List ℕ). length l) (varint-more n (ltb-false n 128 e)), varint-one (n / 128) (omega arith))
 
-fields-size : (from : Addr) (o : Optional) (gs : List Gossip) → Fits gs → length (fieldsOf from o gs) ≤ 46 + sizesOf gs + 2 * length gs
+fields-size : (from : Addr) (o : Optional) (gs : List Gossip) → Fits gs → length (fieldsOf from o gs) ≤ 98 + sizesOf gs + 2 * length gs
 unfolding fieldsOf
 fields-size from o gs fs =
     omega (
@@ -90,7 +90,7 @@ whole-size k from o gs h fs s =
     let f = fields-size from o gs fs in
     omega (arith, f, delimited-long k (fieldsOf from o gs), varint-one (k * 8 + 2) (omega arith), varint-two (length (fieldsOf from o gs)) (omega (arith, f)))
 
--- A DATAGRAM IS NO LONGER THAN ITS GOSSIP, TWO BYTES AROUND EACH, AND 49
+-- A DATAGRAM IS NO LONGER THAN ITS GOSSIP, TWO BYTES AROUND EACH, AND 101
 pub encode-size : (a : Action) (gs : List Gossip) → Fits gs → lengthOf (length gs) (sizesOf gs) < 16384 → length (encode a gs) ≤ lengthOf (length gs) (sizesOf gs)
 unfolding encode
 encode-size (Ping from o) gs fs h = whole-size 1 from o gs (lit≤ tt) fs h

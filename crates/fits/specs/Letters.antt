@@ -66,7 +66,7 @@ spread-within s g =
       chosen-fit here least-gossip t (s .disseminator .alive) (s .disseminator .deceased) (heap-least kind.Alive (s .disseminator .alive) (g .heaps kind.Alive)) (heap-least kind.Deceased (s .disseminator .deceased) (g .heaps kind.Deceased)),
     )
 
--- GOSSIP WHOSE SIZES ADD UP TO 1373 AT MOST, 24 OR MORE EACH, MAKES NO MESSAGE LONGER THAN 1536 BYTES, WHATEVER THE ACTION
+-- GOSSIP WHOSE SIZES ADD UP TO 1169 AT MOST, 18 OR MORE EACH, MAKES NO MESSAGE LONGER THAN 1536 BYTES, WHATEVER THE ACTION
 pub sizes-short : (a : Action) (gs : List Gossip) → Fits gs → sizesOf gs ≤ greatest-size → least-gossip * length gs ≤ greatest-size → length (encode a gs) ≤ buffer
 sizes-short a gs fs h k =
     let w = within-buffer (length gs) (sizesOf gs) h k in

@@ -28,9 +28,9 @@ buffer = 1536
 abbrev pub around : ℕ
 around = 2
 
--- beside the gossip: key and length of the action, three bytes; and two texts of at most 21, each with key and length
+-- beside the gossip: key and length of the action, three bytes; and two texts of at most 47, each with key and length
 abbrev pub beside : ℕ
-beside = 3 + (2 + 21) + (2 + 21)
+beside = 3 + (2 + 47) + (2 + 47)
 
 -- so many records of so many bytes in all
 abbrev pub lengthOf : ℕ → ℕ → ℕ

@@ -1,4 +1,6 @@
 pub mod Image
+pub mod Forms
 pub mod Versions
-pub mod Views
 pub mod Round
+pub mod Chosen
+pub mod Views

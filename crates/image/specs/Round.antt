@@ -6,7 +6,7 @@ use mathlib.Core.List.{List, [], _∷_, map, append-nil}
 use Prim.Native.Nat.{ℕ, zero, suc, _^_, _≤_, _<_}
 use native.Mathlib.Omega.{arith}
 use lib.Dec.{eqb, ltb, leb, lit<}
-use lib.ListN.{length, take, drop, length-map}
+use lib.ListN.{length, drop, length-map}
 use lib.Seq.{take-all}
 use borrow.Author.Tests.{le-leb, leb-true, eq-eqb, eqb-true, ltb-true}
 use Rattle.model.specs.declared.State.{State}
@@ -123,42 +123,42 @@ module _ {A : Type 0} (address : Address A) where
   entries-valid [] = refl
   entries-valid (e ∷ l) = ap (λ (u : Bool). address .valid (addrIn e) && u) (entries-valid l)
 
--- a list whose addresses and numbers fit into their bytes
-module _ {A : Type 0} (F : A → Type 0) where
-  abbrev pub Storable : List (Member A) → Type 0
-  Storable [] = Unit
-  Storable (m ∷ l) = (F (m .addr)) × (m .number < 2 ^ 64) × Storable l
+-- numbers of 64 bits, as a host's are
+abbrev pub Numbered : {A : Type 0} → List (Member A) → Type 0
+Numbered [] = Unit
+Numbered (m ∷ l) = (m .number < 2 ^ 64) × Numbered l
 
-module _ {A : Type 0} (address : Address A) (f : Form A) (F : A → Type 0) (exact : Exact (f .address) F) where
+module _ {A : Type 0} (address : Address A) where
   -- a list that can be saved: what the types and soundness give
   pub record Savable (s : Saved A) : Type 0 where
-    pub own-fits : F (s .own)
     pub own-valid : address .valid (s .own) ≡ true
-    pub rows-fit : Storable F (s .rows)
+    pub numbers : Numbered (s .rows)
     pub few : length (s .rows) ≤ 64
     pub valid : every (address .valid) (addrs (s .rows)) ≡ true
     pub once : distinct (address .same) (addrs (s .rows)) ≡ true
     pub placed : positioned (s .position) (length (s .rows)) ≡ true
 
-  -- bytes that pass every test of an image, and the list that they say
-  pub record Says (bytes : List ℕ) (s : Saved A) : Type 0 where
+  -- bytes that pass the tests of a form, and the list that they say
+  pub record Says (f : Form A) (bytes : List ℕ) (s : Saved A) : Type 0 where
     pub is-marked : marked f bytes ≡ true
     pub is-sized : sized f bytes ≡ true
     pub in-rule : inRule address (fields f bytes) ≡ true
     pub says : savedOf (fields f bytes) ≡ s
 
-  entries-fit : (l : List (Member A)) → Storable F l → All (entry f) (FitEntry f F exact) (map entryOf l)
-  entries-fit [] h = tt
-  entries-fit (m ∷ l) h = ((h .0, (state-small (m .state), h .1)), entries-fit l (h .2))
+module _ {A : Type 0} (address : Address A) (f : Form A) (F : A → Type 0) (exact : Exact (f .address) F) where
+  entries-fit : (l : List (Member A)) → All (f .address) F (addrs l) → Numbered l → All (entry f) (FitEntry f F exact) (map entryOf l)
+  entries-fit [] h n = tt
+  entries-fit (m ∷ l) h n = ((h .0, (state-small (m .state), n .0)), entries-fit l (h .1) (n .1))
 
-  module _ (small : opening f < 256 ^ 5) (s : Saved A) (k : Savable s) where
+  -- a list whose addresses fit
+  module _ (small : opening f < 256 ^ 5) (s : Saved A) (k : Savable address s) (fit : All (f .address) F (s .own ∷ addrs (s .rows))) where
     abbrev n : ℕ
     n = length (s .rows)
 
     fits : FitImage f F exact n (fieldsOf f s)
     fits = (
-      (small, (k .own-fits, omega (arith, k .few))),
-      ((length-map (s .rows) entryOf, entries-fit (s .rows) (k .rows-fit)), low (s .position) n (k .few) (k .placed)),
+      (small, (fit .0, omega (arith, k .few))),
+      ((length-map (s .rows) entryOf, entries-fit (s .rows) (fit .1) (k .numbers)), low (s .position) n (k .few) (k .placed)),
     )
 
     all : layout f n .get (image f s) ≡ fieldsOf f s
@@ -207,7 +207,7 @@ module _ {A : Type 0} (address : Address A) (f : Form A) (F : A → Type 0) (exa
         (ap (positioned (s .position)) e ∙ k .placed)
 
     -- what is saved is read again
-    pub says-image : Says (image f s) s
+    pub says-image : Says address f (image f s) s
     says-image =
         record {
           is-marked = marks;
@@ -216,12 +216,8 @@ module _ {A : Type 0} (address : Address A) (f : Form A) (F : A → Type 0) (exa
           says = ap savedOf reads ∙ ap (λ (l : List (Member A)). record { own = s .own; rows = l; position = s .position }) (rows-back (s .rows));
         }
 
-  -- "One list has one image", and no two lists have the same
-  pub image-tells : opening f < 256 ^ 5 → (s t : Saved A) → Savable s → Savable t → image f s ≡ image f t → s ≡ t
-  image-tells small s t k l e = sym (says-image small s k .says) ∙ ap (λ (bytes : List ℕ). savedOf (fields f bytes)) e ∙ says-image small t l .says
-
   -- what is read is the list with that image
-  pub image-read : (bytes : List ℕ) → Bytes bytes → (s : Saved A) → Says bytes s → image f s ≡ bytes
+  pub image-read : (bytes : List ℕ) → Bytes bytes → (s : Saved A) → Says address f bytes s → image f s ≡ bytes
   unfolding image marked sized inRule fields counted
   image-read bytes b s t =
       let i : Image A = fields f bytes in

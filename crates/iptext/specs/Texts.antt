@@ -1,113 +1,74 @@
 -- The text of an address reads back.
 -- Assumes nothing.
 use mathlib.Core.Path.{_≡_, refl, ap, sym, _∙_}
-use mathlib.Core.Bool.{true}
-use mathlib.Core.List.{List, [], _∷_, _++_, append-assoc, append-nil}
-use mathlib.Core.Logic.{_⊎_, inl, inr}
-use Prim.Native.Nat.{ℕ, suc, _+_, _*_, _/_, _%_, _≤_, _<_}
+use mathlib.Core.Bool.{Bool, true, false}
+use mathlib.Core.List.{List, [], _∷_, _++_}
+use Prim.Native.Nat.{ℕ, _+_, _*_, _%_, _/_, _^_, _≤_, _<_}
 use native.Mathlib.Omega.{arith}
-use native.Mathlib.Nat.{div-div-eq-div-mul, div-add-mod'}
-use lib.Dec.{lit<}
-use lib.ListN.{length, getD, drop, length-append}
-use lib.Seq.{getD-append-seam, drop-append-add}
-use borrow.Author.Tests.{eq-eqb, ltb-true}
-use Rattle.address.specs.IPv4.{address-end, octet, port}
-use Rattle.address.specs.Here.{Addr, here}
-use Rattle.varint.specs.declared.Number.{Number}
-use Rattle.varint.specs.declared.Number.the-variants.{Stopped, Found}
-use Rattle.address.specs.Text.{decimal, text}
-use Rattle.iptext.specs.declared.Text.the-variants.{Malformed, Given}
-use Rattle.iptext.specs.Reading.{decimalAt, mark, marked, partAt, closed, partsFrom, textOf}
-use Rattle.iptext.specs.Decimals.{NoDigit, decimal-back, decimal-some}
+use lib.Dec.{eqb}
+use lib.ListN.{length, getD}
+use borrow.Author.Tests.{eq-eqb, ne-eqb, eqb-true, eqb-false}
+use Rattle.address.specs.Here.{Addr, here, here-text, here-text-long, here-chars}
+use Rattle.address.specs.Text.{text}
+use Rattle.address.specs.Families.{number, numbered, Six, Four, in-range-is, text-of-six, text-of-other, number-below, numbered-back}
+use Rattle.iptext.specs.Parted.{parted, parted-back, numbered-is, parted-is}
+use Rattle.ip4text.specs.Reading as ip4
+use Rattle.ip4text.specs.Texts as texts4
+use Rattle.ip4text.specs.Letters as letters4
+use Rattle.ip4text.specs.Canonical as canonical4
+use Rattle.ip4text.specs.declared.Text as declared4
+use Rattle.ip4text.specs.declared.Text.the-variants as text4
+use Rattle.ip6.specs.Text6.{text6}
+use Rattle.ip6text.specs.Reading.{said6, Only, said-only}
+use Rattle.ip6text.specs.RoundTrip as trip
+use Rattle.ip6text.specs.Letters6 as letters6
+use Rattle.ip6text.specs.declared.Said.{Said}
+use Rattle.ip6text.specs.declared.Said.the-variants as said
+use Rattle.utf8.specs.Utf8.{utf8}
+use Rattle.iptext.specs.declared.Text.{Text}
+use Rattle.iptext.specs.declared.Text.the-variants.{Empty, Malformed, Given}
+use Rattle.iptext.specs.Reading.{four, six, textOf}
 
--- a part with its mark
-unfoldable pub marks : ℕ → Type 0
-marks m = m < 48 ⊎ 57 < m
+pub text-long : (a : Addr) → 1 ≤ length (here-text a)
+text-long a = let h = here-chars a in omega (arith, h, here-text-long a)
 
-part-back : (m n : ℕ) (rest : List ℕ) → marks m → n < 256 → partAt m (decimal n ++ (m ∷ rest)) ≡ Found n (suc (length (decimal n)))
-unfolding partAt marked marks NoDigit
-part-back m n rest d h =
-    ap (marked m (decimal n ++ (m ∷ rest))) (decimal-back 255 n (m ∷ rest) (omega arith) (omega arith) d)
-    ∙ simp (eq-eqb (getD (decimal n ++ (m ∷ rest)) (length (decimal n)) 0) m (getD-append-seam (decimal n) m rest 0))
-
-past : (m n : ℕ) (rest : List ℕ) → drop (suc (length (decimal n))) (decimal n ++ (m ∷ rest)) ≡ rest
-past m n rest =
-    let e : suc (length (decimal n)) ≡ length (decimal n) + 1 = omega arith in
-    ap (λ (k : ℕ). drop k (decimal n ++ (m ∷ rest))) e ∙ drop-append-add (decimal n) (m ∷ rest) 1
-
-parts-back : (left ip n : ℕ) (rest : List ℕ) → marks (mark (suc left)) → n < 256
-    → partsFrom (suc left) ip (decimal n ++ (mark (suc left) ∷ rest)) ≡ partsFrom left (ip * 256 + n) rest
-unfolding partsFrom
-parts-back left ip n rest d h =
-    ap (λ (x : Number). elim x [ Stopped ↦ Malformed | Found v k ↦ partsFrom left (ip * 256 + v) (drop k (decimal n ++ (mark (suc left) ∷ rest))) ])
-    (part-back (mark (suc left)) n rest d h)
-    ∙ ap (partsFrom left (ip * 256 + n)) (past (mark (suc left)) n rest)
-
-port-back : (ip n : ℕ) → n < 65536 → partsFrom 0 ip (decimal n) ≡ Given (ip * 65536 + n)
-unfolding partsFrom closed NoDigit
-port-back ip n h =
-    ap (closed ip (decimal n)) (ap (decimalAt 65535) (sym (append-nil (decimal n))) ∙ decimal-back 65535 n [] (omega arith) (omega arith) tt)
-    ∙ simp (eq-eqb (length (decimal n)) (length (decimal n)) refl)
-
-by-quotients : (a q0 q1 q2 q3 o0 o1 o2 p : ℕ) → a ≡ q0 * 65536 + p → q0 ≡ q1 * 256 + o0 → q1 ≡ q2 * 256 + o1 → q2 ≡ q3 * 256 + o2
-    → ((((0 * 256 + q3) * 256 + o2) * 256 + o1) * 256 + o0) * 65536 + p ≡ a
-by-quotients a q0 q1 q2 q3 o0 o1 o2 p ea e0 e1 e2 = omega arith
-
--- the five numbers say the address
-numbers : (a : ℕ) → a < address-end
-    → ((((0 * 256 + octet a 3) * 256 + octet a 2) * 256 + octet a 1) * 256 + octet a 0) * 65536 + port a ≡ a
-numbers a h =
-    let d1 : a / 16777216 ≡ a / 65536 / 256 = sym (div-div-eq-div-mul a 65536 256) in
-    let d2 : a / 4294967296 ≡ a / 16777216 / 256 = sym (div-div-eq-div-mul a 16777216 256) in
-    let d3 : a / 1099511627776 ≡ a / 4294967296 / 256 = sym (div-div-eq-div-mul a 4294967296 256) in
-    let s : a / 1099511627776 < 256 = omega arith in
-    let t : octet a 3 ≡ a / 1099511627776 = small (a / 1099511627776) s in
-    rw t
-    (by-quotients a (a / 65536) (a / 16777216) (a / 4294967296) (a / 1099511627776) (octet a 0) (octet a 1) (octet a 2) (port a)
-    (whole a 65536) (rw d1 (by256 (a / 65536))) (rw d2 (by256 (a / 16777216))) (rw d3 (by256 (a / 4294967296))))
-  where
-    small : (n : ℕ) → n < 256 → n % 256 ≡ n
-    small n h = omega arith
-
-    by256 : (n : ℕ) → n ≡ n / 256 * 256 + n % 256
-    by256 n = omega arith
-
-    whole : (n m : ℕ) → n ≡ n / m * m + n % m
-    whole n m = sym (div-add-mod' n m)
-
-pub regroup : (a b c d e : List ℕ) → a ++ b ++ c ++ d ++ e ≡ a ++ (b ++ (c ++ (d ++ e)))
-regroup a b c d e = simp append-assoc
-
-chain : (a b c d p : ℕ) → a < 256 → b < 256 → c < 256 → d < 256 → p < 65536
-    → partsFrom 4 0 (decimal a ++ (46 ∷ decimal b) ++ (46 ∷ decimal c) ++ (46 ∷ decimal d) ++ (58 ∷ decimal p))
-    ≡ Given (((((0 * 256 + a) * 256 + b) * 256 + c) * 256 + d) * 65536 + p)
-unfolding mark marks
-chain a b c d p ha hb hc hd hp =
-    ap (partsFrom 4 0) (regroup (decimal a) (46 ∷ decimal b) (46 ∷ decimal c) (46 ∷ decimal d) (58 ∷ decimal p))
-    ∙ parts-back 3 0 a _ (inl (lit< tt)) ha
-    ∙ parts-back 2 (0 * 256 + a) b _ (inl (lit< tt)) hb
-    ∙ parts-back 1 ((0 * 256 + a) * 256 + b) c _ (inl (lit< tt)) hc
-    ∙ parts-back 0 (((0 * 256 + a) * 256 + b) * 256 + c) d _ (inr (lit< tt)) hd
-    ∙ port-back ((((0 * 256 + a) * 256 + b) * 256 + c) * 256 + d) p hp
-
-pub text-some : (t : List ℕ) → 1 ≤ length t → textOf t ≡ partsFrom 4 0 t
+-- by the first byte
+pub six-says : (b : ℕ) (bytes : List ℕ) → b ≡ 91 → textOf (b ∷ bytes) ≡ six (said6 (b ∷ bytes))
 unfolding textOf
-text-some [] h = absurd (omega arith)
-text-some (b ∷ t) h = refl
+six-says b bytes h = ap (λ (u : Bool). elim u [ true ↦ six (said6 (b ∷ bytes)) | false ↦ four (ip4.textOf (b ∷ bytes)) ]) (eq-eqb b 91 h)
 
-first-some : (a b : List ℕ) → 1 ≤ length a → 1 ≤ length (a ++ b)
-first-some a b h = omega (arith, length-append a b)
+pub four-says : (b : ℕ) (bytes : List ℕ) → (b ≡ 91 → ⊥) → textOf (b ∷ bytes) ≡ four (ip4.textOf (b ∷ bytes))
+unfolding textOf
+four-says b bytes h = ap (λ (u : Bool). elim u [ true ↦ six (said6 (b ∷ bytes)) | false ↦ four (ip4.textOf (b ∷ bytes)) ]) (ne-eqb b 91 h)
 
-pub text-long : (a : Addr) → 1 ≤ length (text a)
-text-long a =
-    let a3 : List ℕ = decimal (octet a 3) in
-    let a2 : List ℕ = 46 ∷ decimal (octet a 2) in
-    let a1 : List ℕ = 46 ∷ decimal (octet a 1) in
-    let a0 : List ℕ = 46 ∷ decimal (octet a 0) in
-    first-some (a3 ++ a2 ++ a1 ++ a0) (58 ∷ decimal (port a)) (first-some (a3 ++ a2 ++ a1) a0 (first-some (a3 ++ a2) a1 (first-some a3 a2 (decimal-some (octet a 3)))))
+-- a text of IPv4 begins with no bracket: one that does is not read as of IPv4
+bracket : (bytes : List ℕ) (n : ℕ) → ip4.textOf (91 ∷ bytes) ≡ text4.Given n → ⊥
+unfolding ip4.textOf ip4.partsFrom ip4.partAt ip4.marked ip4.decimalAt ip4.digitsFrom ip4.ended
+bracket bytes n e = let z : _≡_ {A = ℕ} 0 1 = cc in absurd (omega arith)
 
-pub text-back : (a : Addr) → here .valid a ≡ true → textOf (text a) ≡ Given a
-text-back a h =
-    text-some (text a) (text-long a)
-    ∙ chain (octet a 3) (octet a 2) (octet a 1) (octet a 0) (port a) (omega arith) (omega arith) (omega arith) (omega arith) (omega arith)
-    ∙ ap Given (numbers a (ltb-true a address-end h))
+back-six : (a : Addr) → Six a → textOf (text6 (a .high) (a .low) (a .port)) ≡ Given a
+unfolding text6
+back-six a s =
+    six-says 91 _ refl
+    ∙ ap six (trip.text-back (a .high) (a .low) (a .port) (s .high) (s .low) (s .port))
+    ∙ ap Given (parted-back a s)
+
+four-back : (t : List ℕ) (a : Addr) (n : ℕ) → 1 ≤ length t → ip4.textOf t ≡ text4.Given n → numbered n ≡ a → textOf t ≡ Given a
+four-back [] a n l e q = absurd (omega arith)
+four-back (b ∷ t) a n l e q =
+    (elim (eqb b 91) as (λ u. eqb b 91 ≡ u → textOf (b ∷ t) ≡ Given a) [
+      | true ↦ λ h. let k : b ≡ 91 = eqb-true b 91 h in absurd (bracket t n (ap (λ (x : ℕ). ip4.textOf (x ∷ t)) (sym k) ∙ e))
+      | false ↦ λ h. four-says b t (eqb-false b 91 h) ∙ ap four e ∙ ap Given q
+    ]) refl
+
+pub six-four : (a : Addr) → Four a → a .family ≡ 6 → ⊥
+six-four a f h = let z : _≡_ {A = ℕ} 4 6 = sym (f .family) ∙ h in absurd (omega arith)
+
+-- WHAT IS WRITTEN READS BACK
+pub text-back : (a : Addr) → here .valid a ≡ true → textOf (here-text a) ≡ Given a
+text-back a v =
+    in-range-is a (textOf (here-text a) ≡ Given a) v
+    (λ s. ap textOf (text-of-six a (s .family)) ∙ back-six a s)
+    (λ f.
+    ap textOf (text-of-other a (six-four a f))
+    ∙ four-back (text (number a)) a (number a) (texts4.text-long (number a)) (texts4.text-back (number a) (number-below a f)) (numbered-back a f))

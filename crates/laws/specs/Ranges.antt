@@ -6,7 +6,7 @@ use Prim.Native.Nat.{_≤_}
 use lib.Dec.{ltb, leb}
 use borrow.Author.Tests.{leb-true}
 use Rattle.model.specs.declared.Settings.{Settings}
-use Rattle.model.specs.Bounds.{wait-end, greatest-size}
+use Rattle.model.specs.Bounds.{wait-end, least-size, greatest-size}
 use Rattle.model.specs.Sound.{inRange}
 use Rattle.laws.specs.Bools.{and-split}
 
@@ -26,9 +26,9 @@ ranges c e =
     let b : Bool = a && leb (c .«send_constant») 8 in
     let d : Bool = b && leb 1 (c .«max_selected») in
     let f : Bool = d && leb (c .«max_selected») 64 in
-    let g : Bool = f && leb 59 (c .«max_size») in
+    let g : Bool = f && leb least-size (c .«max_size») in
     let p₁ = and-split g (leb (c .«max_size») greatest-size) e in
-    let p₂ = and-split f (leb 59 (c .«max_size»)) (p₁ .0) in
+    let p₂ = and-split f (leb least-size (c .«max_size»)) (p₁ .0) in
     let p₃ = and-split d (leb (c .«max_selected») 64) (p₂ .0) in
     let p₄ = and-split b (leb 1 (c .«max_selected»)) (p₃ .0) in
     let p₅ = and-split a (leb (c .«send_constant») 8) (p₄ .0) in

@@ -192,11 +192,30 @@ module _ {A : Type 0} (address : Address A) where
     abbrev turn : Choice A → Choice A → Bool → Bool → Choice A
     turn c next u v = elim u [ true ↦ c | false ↦ elim v [ true ↦ next | false ↦ c ] ]
 
-    -- where nothing within the size has as many as k records, k rounds are enough: more of them give the same
-    module _ (k : ℕ) (few : (c : Choice A) → Within least t c → length (c .chosen) < k) where
+    -- where nothing within the size has more than k records, k rounds are enough: more of them give the same
+    module _ (k : ℕ) (few : (c : Choice A) → Within least t c → length (c .chosen) ≤ k) where
+      -- with k records no heap gives one more
+      full : (g : ℕ) (c : Choice A) → Within least t c → k ≤ length (c .chosen) → rounds address g t c ≡ c
+      unfolding rounds
+      full zero c w h = refl
+      full (suc g) c w h =
+          let a = tryAlive address t c in
+          let c₁ = afterAlive address c a in
+          let b = tryDeceased address t c₁ in
+          let c₂ = afterDeceased address c₁ b in
+          let w₂ : Within least t c₂ = after-deceased t (Within least t) alive-within deceased-within c₁ b refl (after-alive t (Within least t) alive-within deceased-within c a refl w) in
+          elim (over address t c) as (λ u. turn c (rounds address g t c₂) u (gave address a || gave address b) ≡ c) [
+            | true ↦ refl
+            | false ↦
+                (elim (gave address a || gave address b) as (λ v. (gave address a || gave address b) ≡ v → turn c (rounds address g t c₂) false v ≡ c) [
+                  | true ↦ λ e. absurd (omega (arith, longer c a b e, few c₂ w₂))
+                  | false ↦ λ e. refl
+                ]) refl
+          ]
+
       pub rounds-enough : (f g : ℕ) (c : Choice A) → Within least t c → k ≤ length (c .chosen) + f → f ≤ g → rounds address g t c ≡ rounds address f t c
       unfolding rounds
-      rounds-enough zero g c w h l = absurd (omega (arith, few c w))
+      rounds-enough zero g c w h l = full g c w (omega arith)
       rounds-enough (suc f) zero c w h l = absurd (omega arith)
       rounds-enough (suc f) (suc g) c w h l =
           let a = tryAlive address t c in

@@ -1,14 +1,13 @@
--- What is saved of a good node is restored, what is restored is good, and its image is the bytes that it came from. For any type of address and its bytes.
+-- What is saved of a good node is restored, what is restored is good, and its image is the bytes that it came from. For any type of address and two forms of its bytes.
 -- Assumes nothing.
 use mathlib.Core.Path.{_≡_, refl, ap, sym, _∙_, subst}
 use mathlib.Core.Bool.{Bool, true, false, not, _&&_}
 use mathlib.Core.List.{List, [], _∷_, map}
-use Prim.Native.Nat.{ℕ, zero, suc, _+_, _-_, _^_, _≤_, _<_}
+use Prim.Native.Nat.{ℕ, _^_, _≤_, _<_}
 use native.Mathlib.Omega.{arith}
 use lib.ListN.{length, length-map}
-use lib.Dec.{eqb, ltb, leb}
+use lib.Dec.{leb}
 use borrow.Author.Tests.{not-true, leb-true}
-use Rattle.model.specs.declared.State.{State}
 use Rattle.model.specs.declared.State.the-variants.{Alive}
 use Rattle.model.specs.declared.Refusal.{Refusal}
 use Rattle.model.specs.declared.Refusal.the-variants.{Setting, WrongMark, WrongLength, OutOfRule}
@@ -19,23 +18,19 @@ use Rattle.model.specs.Members as list
 use Rattle.model.specs.Node.{Node, Stored, stored}
 use Rattle.model.specs.Sound.{inRange, distinct, positioned}
 use Rattle.model.specs.Calls.{Created, created, notCreated, firstOf}
-use Rattle.laws.specs.Bools.{and-split}
-use Rattle.laws.specs.Counts.{has-le, has-none, has-is}
+use Rattle.laws.specs.Bools.{and-split, and-join}
+use Rattle.laws.specs.Counts.{has-is}
 use Rattle.laws_list.specs.Whole.{Whole}
 use Rattle.laws_list.specs.Distinct.{once-distinct}
 use Rattle.laws_node.specs.Good.{Good, le-positioned}
 use Rattle.history.specs.Beginnings.{Restart, InRule, Gave, restarts}
 use Rattle.history.specs.Worlds.{first-good}
 use Rattle.numbers.specs.Numbers.{Bytes}
-use Rattle.numbers.specs.Codec.{Exact}
-use Rattle.image.specs.Image.{Form, opening, Image, addrIn, ownIn, entriesIn, positionIn, memberOf, Saved, savedOf, image, marked, sized, fields, stateInRule, addressInRule, inRule}
-use Rattle.image.specs.Round.{entries-valid, members-addrs, Storable, Savable, Says, says-image, image-read}
-use Rattle.saving.specs.Saving.{recordOf, inOrder, savedList, restoredNode, restoreTests, restore}
-
--- numbers of 64 bits, as a host's are
-abbrev pub Numbered : {A : Type 0} → List (Member A) → Type 0
-Numbered [] = Unit
-Numbered (m ∷ t) = (m .number < 2 ^ 64) × Numbered t
+use Rattle.image.specs.Image.{addrIn, ownIn, entriesIn, positionIn, memberOf, Saved, marked, sized, stateInRule, addressInRule, inRule}
+use Rattle.image.specs.Forms.{Forms, imageOf, formIn, fieldsIn, saidBy, inVersion, Sure}
+use Rattle.image.specs.Round.{entries-valid, members-addrs, Numbered, Savable}
+use Rattle.image.specs.Chosen.{Tells, image-told}
+use Rattle.saving.specs.Saving.{recordOf, inOrder, savedList, restoredNode, restore}
 
 -- what a list that is told by its records says, and what its records in probing order say
 module _ {A : Type 0} (address : Address A) (lawful : Lawful address) where
@@ -167,30 +162,25 @@ module _ {A : Type 0} (address : Address A) (lawful : Lawful address) where
     pub order-same : list.addrs (inOrder address (s .members)) ≡ order
     order-same = order-addrs table order
 
-    module _ (f : Form A) (F : A → Type 0) (exact : Exact (f .address) F) (small : (a : A) → address .valid a ≡ true → F a) where
-      storable : Numbered table → (l : List A) → every (address .valid) l ≡ true → Storable F (map (recordOf address table) l)
-      storable n [] h = tt
-      storable n (x ∷ l) h =
-          let p = and-split (address .valid x) (every (address .valid) l) h in
-          (small x (p .0), held-small x table n, storable n l (p .1))
+    numbered : Numbered table → (l : List A) → Numbered (map (recordOf address table) l)
+    numbered n [] = tt
+    numbered n (x ∷ l) = (held-small x table n, numbered n l)
 
-      -- a good node's list can be saved
-      pub savable : address .valid (s .own) ≡ true → Numbered table → Savable address f F exact (savedList address s)
-      savable o n =
-          let all : every (address .valid) order ≡ true = valid-order order (λ x h. h) in
-          let long : length (inOrder address (s .members)) ≡ length order = length-map order (recordOf address table) in
-          record {
-            own-fits = small (s .own) o;
-            own-valid = o;
-            rows-fit = storable n order all;
-            few = omega (arith, long, w .long, w .few);
-            valid = ap (every (address .valid)) (order-addrs table order) ∙ all;
-            once = ap (distinct same) (order-addrs table order) ∙ once-distinct same (lawful .test) order (λ a. omega (arith, w .counts a, w .once a));
-            placed = ap (positioned (s .members .position)) long ∙ le-positioned (s .members .position) (length order) (w .place);
-          }
+    -- a good node's list can be saved
+    pub savable : address .valid (s .own) ≡ true → Numbered table → Savable address (savedList address s)
+    savable o n =
+        let long : length (inOrder address (s .members)) ≡ length order = length-map order (recordOf address table) in
+        record {
+          own-valid = o;
+          numbers = numbered n order;
+          few = omega (arith, long, w .long, w .few);
+          valid = ap (every (address .valid)) (order-addrs table order) ∙ valid-order order (λ x h. h);
+          once = ap (distinct same) (order-addrs table order) ∙ once-distinct same (lawful .test) order (λ a. omega (arith, w .counts a, w .once a));
+          placed = ap (positioned (s .members .position)) long ∙ le-positioned (s .members .position) (length order) (w .place);
+        }
 
 -- restoring
-module _ {A : Type 0} (address : Address A) (lawful : Lawful address) (f : Form A) (F : A → Type 0) (exact : Exact (f .address) F) where
+module _ {A : Type 0} (address : Address A) (lawful : Lawful address) (forms : Forms A) where
   -- bytes that are accepted: every test was passed
   six : (a b c d e g : Bool) → (a && b && c && d && e && g) ≡ true → (a ≡ true) × (b ≡ true) × (d ≡ true) × (e ≡ true) × (g ≡ true)
   six a b c d e g h =
@@ -202,7 +192,7 @@ module _ {A : Type 0} (address : Address A) (lawful : Lawful address) (f : Form 
       (u .0, u .1, r .1, q .1, p .1)
 
   pub record Accepted (bytes : List ℕ) (settings : Settings) : Type 0 where
-    pub says : Says address f F exact bytes (savedOf (fields f bytes))
+    pub tells : Tells address forms bytes (saidBy forms bytes)
     pub settings-in : inRange settings ≡ true
 
   kind-of : Created A → ℕ
@@ -223,49 +213,54 @@ module _ {A : Type 0} (address : Address A) (lawful : Lawful address) (f : Form 
   passes false v w x a b c d s node e = let z : _≡_ {A = ℕ} 0 1 = ap kind-of e in absurd (omega arith)
 
   -- what restore accepts passed every test, and is the node of its list
-  pub accepted : (bytes : List ℕ) (settings : Settings) (node : Stored A) → restore address f bytes settings ≡ created node
-      → Accepted bytes settings × (node ≡ stored address (restoredNode address settings (savedOf (fields f bytes))))
+  pub accepted : (bytes : List ℕ) (settings : Settings) (node : Stored A) → restore address forms bytes settings ≡ created node
+      → Accepted bytes settings × (node ≡ stored address (restoredNode address settings (saidBy forms bytes)))
   unfolding restore
   accepted bytes settings node e =
-      let p = passes (marked f bytes) (sized f bytes) (inRule address (fields f bytes)) (inRange settings) WrongMark WrongLength OutOfRule Setting _ node e in
-      (record { says = record { is-marked = p .0; is-sized = p .1; in-rule = p .2; says = refl }; settings-in = p .3 }, p .4)
+      let p = passes (marked (formIn forms bytes) bytes) (sized (formIn forms bytes) bytes) (inRule address (fieldsIn forms bytes) && inVersion forms bytes) (inRange settings)
+      WrongMark WrongLength OutOfRule Setting _ node e in
+      let q = and-split (inRule address (fieldsIn forms bytes)) (inVersion forms bytes) (p .2) in (
+        record { tells = record { says = record { is-marked = p .0; is-sized = p .1; in-rule = q .0; says = refl }; in-version = q .1 }; settings-in = p .3 },
+        p .4,
+      )
 
   goes : (u v w x : Bool) (a b c d : Refusal) (s : Stored A) → u ≡ true → v ≡ true → w ≡ true → x ≡ true
       → firstOf ((not u, a) ∷ (not v, b) ∷ (not w, c) ∷ (not x, d) ∷ []) notCreated (created s) ≡ created s
   goes u v w x a b c d s e g h k = rw (e, g, h, k)
 
   -- bytes that say a list, with settings in range, are accepted
-  pub restores : (bytes : List ℕ) (settings : Settings) (s : Saved A) → Says address f F exact bytes s → inRange settings ≡ true
-      → restore address f bytes settings ≡ created (stored address (restoredNode address settings s))
+  pub restores : (bytes : List ℕ) (settings : Settings) (s : Saved A) → Tells address forms bytes s → inRange settings ≡ true
+      → restore address forms bytes settings ≡ created (stored address (restoredNode address settings s))
   unfolding restore
   restores bytes settings s t c =
-      goes (marked f bytes) (sized f bytes) (inRule address (fields f bytes)) (inRange settings) WrongMark WrongLength OutOfRule Setting _ (t .is-marked) (t .is-sized) (t .in-rule) c
-      ∙ ap (λ (x : Saved A). created (stored address (restoredNode address settings x))) (t .says)
+      goes (marked (formIn forms bytes) bytes) (sized (formIn forms bytes) bytes) (inRule address (fieldsIn forms bytes) && inVersion forms bytes) (inRange settings)
+      WrongMark WrongLength OutOfRule Setting _ (t .says .is-marked) (t .says .is-sized) (and-join (t .says .in-rule) (t .in-version)) c
+      ∙ ap (λ (x : Saved A). created (stored address (restoredNode address settings x))) (t .says .says)
 
   module _ (bytes : List ℕ) (settings : Settings) (a : Accepted bytes settings) where
     abbrev said : Saved A
-    said = savedOf (fields f bytes)
+    said = saidBy forms bytes
 
-    parts : (leb (length (entriesIn (fields f bytes))) 64 ≡ true) × (address .valid (ownIn (fields f bytes)) ≡ true) × (every (addressInRule address) (entriesIn (fields f bytes)) ≡ true)
-        × (distinct (address .same) (map addrIn (entriesIn (fields f bytes))) ≡ true) × (positioned (positionIn (fields f bytes)) (length (entriesIn (fields f bytes))) ≡ true)
+    parts : (leb (length (entriesIn (fieldsIn forms bytes))) 64 ≡ true) × (address .valid (ownIn (fieldsIn forms bytes)) ≡ true) × (every (addressInRule address) (entriesIn (fieldsIn forms bytes)) ≡ true)
+        × (distinct (address .same) (map addrIn (entriesIn (fieldsIn forms bytes))) ≡ true) × (positioned (positionIn (fieldsIn forms bytes)) (length (entriesIn (fieldsIn forms bytes))) ≡ true)
     unfolding inRule
     parts =
-        six (leb (length (entriesIn (fields f bytes))) 64) (address .valid (ownIn (fields f bytes))) (every (stateInRule address) (entriesIn (fields f bytes)))
-        (every (addressInRule address) (entriesIn (fields f bytes))) (distinct (address .same) (map addrIn (entriesIn (fields f bytes))))
-        (positioned (positionIn (fields f bytes)) (length (entriesIn (fields f bytes)))) (a .says .in-rule)
+        six (leb (length (entriesIn (fieldsIn forms bytes))) 64) (address .valid (ownIn (fieldsIn forms bytes))) (every (stateInRule address) (entriesIn (fieldsIn forms bytes)))
+        (every (addressInRule address) (entriesIn (fieldsIn forms bytes))) (distinct (address .same) (map addrIn (entriesIn (fieldsIn forms bytes))))
+        (positioned (positionIn (fieldsIn forms bytes)) (length (entriesIn (fieldsIn forms bytes)))) (a .tells .says .in-rule)
 
     -- what restore accepts is in rule
     pub in-rule : InRule address (said .own) (said .rows) (said .position)
     in-rule =
         let p = parts in
-        let n = length-map (entriesIn (fields f bytes)) memberOf in
-        let e = members-addrs (entriesIn (fields f bytes)) in
+        let n = length-map (entriesIn (fieldsIn forms bytes)) memberOf in
+        let e = members-addrs (entriesIn (fieldsIn forms bytes)) in
         record {
-          few = omega (arith, leb-true (length (entriesIn (fields f bytes))) 64 (p .0), n);
+          few = omega (arith, leb-true (length (entriesIn (fieldsIn forms bytes))) 64 (p .0), n);
           own-valid = p .1;
-          valid = ap (every (address .valid)) e ∙ sym (entries-valid address (entriesIn (fields f bytes))) ∙ p .2;
+          valid = ap (every (address .valid)) e ∙ sym (entries-valid address (entriesIn (fieldsIn forms bytes))) ∙ p .2;
           once = ap (distinct (address .same)) e ∙ p .3;
-          placed = ap (positioned (positionIn (fields f bytes))) n ∙ p .4;
+          placed = ap (positioned (positionIn (fieldsIn forms bytes))) n ∙ p .4;
         }
 
     -- so it is a node that a history can begin at
@@ -277,9 +272,9 @@ module _ {A : Type 0} (address : Address A) (lawful : Lawful address) (f : Form 
     restored-good = first-good address lawful gave-restart
 
     -- the image of what was restored is the bytes that it came from
-    pub saved-again : Bytes bytes → image f (savedList address (restoredNode address settings said)) ≡ bytes
-    saved-again b =
+    pub saved-again : Sure address forms → Bytes bytes → imageOf forms (savedList address (restoredNode address settings said)) ≡ bytes
+    saved-again sure b =
         let p = parts in
-        let e : distinct (address .same) (list.addrs (said .rows)) ≡ true = ap (distinct (address .same)) (members-addrs (entriesIn (fields f bytes))) ∙ p .3 in
-        ap (λ (rows : List (Member A)). image f (record { own = said .own; rows = rows; position = said .position })) (own-records address lawful (said .rows) e)
-        ∙ image-read address f F exact bytes b said (a .says)
+        let e : distinct (address .same) (list.addrs (said .rows)) ≡ true = ap (distinct (address .same)) (members-addrs (entriesIn (fieldsIn forms bytes))) ∙ p .3 in
+        ap (λ (rows : List (Member A)). imageOf forms (record { own = said .own; rows = rows; position = said .position })) (own-records address lawful (said .rows) e)
+        ∙ image-told address forms sure bytes b said (a .tells)

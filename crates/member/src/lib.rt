@@ -280,7 +280,7 @@ impl Members {
         let table = self.table;
         let order = self.order;
         let row = order.row;
-        let at = order::find_place(&row, n, a);
+        let at = order::find_place(row, n, a);
         let was = held.state;
         Members {
             table: close_up(table, n, held.place),

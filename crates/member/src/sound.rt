@@ -34,16 +34,17 @@ fn addresses(table: [Member; Members::CAPACITY]) -> [Address; Members::CAPACITY]
     let mut i = 0;
     while i < Members::CAPACITY {
         let m = table[i];
-        out[i] = m.addr;
+        let a = m.addr;
+        out[i] = a;
         i += 1;
     }
     out
 }
 
 // For each drawer the first place of the first n whose address belongs in it, so that the next one needs no scan. Any place will do for an empty one.
-fn first_places(order: &[Address; Members::CAPACITY], n: usize) -> [usize; 64]
-    requires { ⌜ (n ≤ 64) × (length (now order) ≡ 64) ⌝ }
-    ensures { λ r. ⌜ Firsts (now (order .entry)) n r 0 ⌝ }
+fn first_places(order: [Address; Members::CAPACITY], n: usize) -> [usize; 64]
+    requires { ⌜ n ≤ 64 ⌝ }
+    ensures { λ r. ⌜ Firsts order n r 0 ⌝ }
 {
     let mut out = [0usize; 64];
     let mut i = n;
@@ -55,9 +56,9 @@ fn first_places(order: &[Address; Members::CAPACITY], n: usize) -> [usize; 64]
 }
 
 // The first place of an address, or n: at first sight where it is the first of its drawer, else by a scan.
-fn seek(order: &[Address; Members::CAPACITY], firsts: &[usize; 64], n: usize, a: Address) -> usize
-    requires { ⌜ (n ≤ 64) × (length (now order) ≡ 64) × Firsts (now order) n (now firsts) 0 ⌝ }
-    ensures { λ r. ⌜ r ≡ placeOf (here .same) a (take n (now (order .entry))) ⌝ }
+fn seek(order: [Address; Members::CAPACITY], firsts: &[usize; 64], n: usize, a: Address) -> usize
+    requires { ⌜ (n ≤ 64) × Firsts order n (now firsts) 0 ⌝ }
+    ensures { λ r. ⌜ r ≡ placeOf (here .same) a (take n order) ⌝ }
     ensures within { λ r. ⌜ r ≤ n ⌝ }
 {
     let place = firsts[address::drawer(a)];
@@ -80,11 +81,11 @@ pub fn matches(
     requires { ⌜ n ≤ 64 ⌝ }
     ensures { λ r. ⌜ r ≡ (distinct (here .same) (take n row) && permutes (here .same) (take n order) (take n row)) ⌝ }
 {
-    let firsts = first_places(&order, n);
+    let firsts = first_places(order, n);
     let mut marks = [false; Members::CAPACITY];
     let mut i = 0;
     while i < n {
-        let place = seek(&order, &firsts, n, row[i]);
+        let place = seek(order, &firsts, n, row[i]);
         if place == n {
             return false;
         }

@@ -233,12 +233,13 @@ pub fn handle_gossip(node: Node, lent: Lent, draws: &[u64]) -> Heard
         i += 1;
     }
     let settings = node.settings;
+    let own = node.own;
     let timers = node.timers;
     let events = report.events;
     Heard {
         node: Node {
             settings,
-            own: node.own,
+            own,
             members,
             disseminator: Disseminator { alive, deceased },
             timers,

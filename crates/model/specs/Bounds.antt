@@ -30,7 +30,7 @@ last-number = 2 ^ 64 - 1
 abbrev pub ticks : ℕ
 ticks = 2 ^ 32
 
--- "Settings: four waits below 2^31 ticks, group 0 to 4, send constant 0 to 8, max_selected 1 to 64, max_size 59 to 1373."
+-- "Settings: four waits below 2^31 ticks, group 0 to 4, send constant 0 to 8, max_selected 1 to 64, max_size 111 to 1169."
 abbrev pub wait-end : ℕ
 wait-end = 2 ^ 31
 
@@ -44,10 +44,10 @@ abbrev pub most-selected : ℕ
 most-selected = 64
 
 abbrev pub least-size : ℕ
-least-size = 59
+least-size = 111
 
 abbrev pub greatest-size : ℕ
-greatest-size = 1373
+greatest-size = 1169
 
 -- "a message call needs 64 gossip and 65 event records, a detector step 256 and 1, a timer call 0 and 1": the places of its rows
 pub record Room : Type 0 where

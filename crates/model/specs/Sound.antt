@@ -18,7 +18,7 @@ use Rattle.model.specs.Members.{addrs}
 use Rattle.model.specs.Lamps.{lampsOf, sameLamps}
 use Rattle.model.specs.Node.{Row, Stored, inUse}
 
--- "Settings: four waits below 2^31 ticks, group 0 to 4, send constant 0 to 8, max_selected 1 to 64, max_size 59 to 1373."
+-- "Settings: four waits below 2^31 ticks, group 0 to 4, send constant 0 to 8, max_selected 1 to 64, max_size 111 to 1169."
 unfoldable pub inRange : Settings → Bool
 inRange c =
     ltb (c .«ping_interval») wait-end

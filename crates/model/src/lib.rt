@@ -171,9 +171,9 @@ impl Settings {
 
     pub const MOST_SELECTED: usize = 64;
 
-    pub const LEAST_SIZE: usize = 59;
+    pub const LEAST_SIZE: usize = 111;
 
-    pub const GREATEST_SIZE: usize = 1373;
+    pub const GREATEST_SIZE: usize = 1169;
 }
 
 // A refusal's number in the table of refusals.

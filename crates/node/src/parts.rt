@@ -22,11 +22,12 @@ impl Node {
         ensures { λ r. ⌜ r ≡ withMembers self members ⌝ }
     {
         let settings = self.settings;
+        let own = self.own;
         let disseminator = self.disseminator;
         let timers = self.timers;
         Node {
             settings,
-            own: self.own,
+            own,
             members,
             disseminator,
             timers,
@@ -37,11 +38,12 @@ impl Node {
         ensures { λ r. ⌜ r ≡ withTimers self timers ⌝ }
     {
         let settings = self.settings;
+        let own = self.own;
         let members = self.members;
         let disseminator = self.disseminator;
         Node {
             settings,
-            own: self.own,
+            own,
             members,
             disseminator,
             timers,
@@ -86,6 +88,7 @@ impl Node {
             };
         }
         let settings = self.settings;
+        let own = self.own;
         let members = self.members;
         let timers = self.timers;
         let alive = self.disseminator.alive;
@@ -98,7 +101,7 @@ impl Node {
         Spread {
             node: Node {
                 settings,
-                own: self.own,
+                own,
                 members,
                 disseminator: Disseminator {
                     alive: living,

@@ -4,7 +4,7 @@ use model::both;
 ghost use mathlib.Core.Path.{_≡_};
 ghost use Rattle.model.specs.Sound.{inRange};
 
-// "four waits below 2^31 ticks, group 0 to 4, send constant 0 to 8, max_selected 1 to 64, max_size 59 to 1373": each line asks more.
+// "four waits below 2^31 ticks, group 0 to 4, send constant 0 to 8, max_selected 1 to 64, max_size 111 to 1169": each line asks more.
 pub fn in_range(c: Settings) -> bool
     ensures { λ r. ⌜ r ≡ inRange c ⌝ }
 {

@@ -23,10 +23,10 @@ impl Order {
     pub const CAPACITY: usize = 64;
 }
 
-// The first place that holds an address, or n where none of the first n does. The row is only read, so it is lent.
-pub fn find_place(row: &[Address; Order::CAPACITY], n: usize, a: Address) -> usize
-    requires { ⌜ (n ≤ 64) × (length (now row) ≡ 64) ⌝ }
-    ensures { λ r. ⌜ r ≡ placeOf (here .same) a (take n (now (row .entry))) ⌝ }
+// The first place that holds an address, or n where none of the first n does. By value: a lent row of structs isn't walked.
+pub fn find_place(row: [Address; Order::CAPACITY], n: usize, a: Address) -> usize
+    requires { ⌜ n ≤ 64 ⌝ }
+    ensures { λ r. ⌜ r ≡ placeOf (here .same) a (take n row) ⌝ }
     ensures within { λ r. ⌜ r ≤ n ⌝ }
 {
     let mut i = 0;

@@ -21,7 +21,7 @@ ghost use mathlib.Core.Path.{_≡_};
 ghost use mathlib.Core.Bool.{true};
 ghost use mathlib.Core.List.{[], map};
 ghost use Prim.Native.Nat.{_+_, _*_, _≤_, _<_};
-ghost use lib.ListN.{take};
+ghost use lib.ListN.{length, take};
 ghost use Rattle.address.specs.Here.{here};
 ghost use Rattle.model.specs.Detector as D;
 ghost use Rattle.model.specs.Calls as calls;
@@ -31,6 +31,11 @@ ghost use Rattle.node.specs.Views.{storedView, viewNode};
 ghost use Rattle.node.specs.Rows.{Ready};
 ghost use Rattle.wait.specs.Views.{toWait, keptOf, Gives, PackedMail};
 ghost use Rattle.pinging.specs.Views.{askedOne, askedOf, groupAsked};
+
+// An array has as many places as its type says. The prover finds this of an array that stands by itself, so it is handed over once.
+fn has_picks(row: [Address; Picks::CAPACITY])
+    ensures { λ _. ⌜ length row ≡ 4 ⌝ }
+{}
 
 // If one is picked: Ping, set Pending, wait for PingAck. If none: the gossip is spent but not written.
 fn pinged(
@@ -48,6 +53,7 @@ fn pinged(
         return Stepped::plain(Reply::Done(used), node, Wait::new(tick));
     }
     let row = picks.row;
+    has_picks(row);
     let target = row[0];
     let members = node.members;
     let number = members.member_number(target);
@@ -123,6 +129,7 @@ fn ask_each(node: Node, picks: Picks, suspect: Address) -> Asked
     ensures within { λ r. ⌜ r .mail .written ≤ 4 * most-chosen ⌝ }
 {
     let row = picks.row;
+    has_picks(row);
     let count = picks.count;
     let mut ahead = node;
     let mut mail = Mail::none();
@@ -196,12 +203,13 @@ pub fn send_ping_req(
     let drew = picked.drew;
     match drew {
         Drew::Used(used) => {
+            let own = node.own;
             let timers = node.timers;
             let alive = pushed.heap;
             let deceased = node.disseminator.deceased;
             let turned = Node {
                 settings,
-                own: node.own,
+                own,
                 members: after,
                 disseminator: Disseminator { alive, deceased },
                 timers,

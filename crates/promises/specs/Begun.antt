@@ -15,8 +15,9 @@ use Rattle.node.specs.declared.Answer.{Answer}
 use Rattle.node.specs.Views.{storedView, createdOf}
 use Rattle.wait.specs.declared.Wait.{Wait}
 use Rattle.wait.specs.Views.{freshWait}
-use Rattle.image.specs.Image.{Saved, savedOf, fields}
-use Rattle.image.specs.Versions.{v1, Fits1, exact1}
+use Rattle.image.specs.Image.{Saved}
+use Rattle.image.specs.Forms.{saidBy}
+use Rattle.image.specs.Versions.{versions}
 use Rattle.saving.specs.Saving.{restoredNode, restore}
 use Rattle.saving.specs.Views.{restoredAs, restoredOf}
 use Rattle.saving.specs.declared.Restored.{Restored}
@@ -29,7 +30,7 @@ use Rattle.promises.specs.Runs.{stored-unstored}
 
 -- the list that bytes say, with settings given anew
 abbrev pub restartOf : List ℕ → Settings → Beginning Addr
-restartOf bytes settings = let s : Saved Addr = savedOf (fields v1 bytes) in Restart settings (s .own) (s .rows) (s .position)
+restartOf bytes settings = let s : Saved Addr = saidBy versions bytes in Restart settings (s .own) (s .rows) (s .position)
 
 -- creation was accepted, and the host's wait record is a fresh one; or a restart was, which gives one
 pub data Begun : Beginning Addr → ℕ → Node → Wait → Type 0 where
@@ -43,22 +44,22 @@ gave-node (calls.created s) e = ap calls.created (sym (stored-unstored s))
 gave-node (calls.notCreated r) e = absurd (not-zero r (sym (ap replyNumber e)))
 
 module _ (bytes : List ℕ) (settings : Settings) (tick : ℕ) (r : Restored) (told : r ≡ restoredOf bytes settings tick) (kept : Accepted (r .answer)) where
-  pub restore-gave : restore here v1 bytes settings ≡ calls.created (storedView (r .answer .node))
+  pub restore-gave : restore here versions bytes settings ≡ calls.created (storedView (r .answer .node))
   unfolding restoredOf
   restore-gave =
-      gave-node (restore here v1 bytes settings) (ap (λ (x : Restored). x .answer .reply) (sym told) ∙ kept)
+      gave-node (restore here versions bytes settings) (ap (λ (x : Restored). x .answer .reply) (sym told) ∙ kept)
       ∙ ap (λ (x : Restored). calls.created (storedView (x .answer .node))) (sym told)
 
   -- every test was passed, and the node is that of the list
-  pub restore-accepted : ListAccepted here here-lawful v1 Fits1 exact1 bytes settings × (storedView (r .answer .node) ≡ M.stored here (restoredNode here settings (savedOf (fields v1 bytes))))
-  restore-accepted = accepted here here-lawful v1 Fits1 exact1 bytes settings (storedView (r .answer .node)) restore-gave
+  pub restore-accepted : ListAccepted here here-lawful versions bytes settings × (storedView (r .answer .node) ≡ M.stored here (restoredNode here settings (saidBy versions bytes)))
+  restore-accepted = accepted here here-lawful versions bytes settings (storedView (r .answer .node)) restore-gave
 
 pub begun-gave : {b : Beginning Addr} {tick : ℕ} {node : Node} {wait : Wait} → Begun b tick node wait → Gave here b (storedView node)
 begun-gave (created settings own number tick r met kept) =
     creates (gave-node (calls.create here settings own number) (ap (λ (x : Answer). x .reply) (sym (met .answer)) ∙ kept) ∙ ap (λ (x : Answer). calls.created (storedView (x .node))) (sym (met .answer)))
 begun-gave (restored bytes settings tick r told kept) =
     let a = restore-accepted bytes settings tick r told kept in
-    subst (Gave here (restartOf bytes settings)) (sym (a .1)) (gave-restart here here-lawful v1 Fits1 exact1 bytes settings (a .0))
+    subst (Gave here (restartOf bytes settings)) (sym (a .1)) (gave-restart here here-lawful versions bytes settings (a .0))
 
 pub begun-wait : {b : Beginning Addr} {tick : ℕ} {node : Node} {wait : Wait} → Begun b tick node wait → wait ≡ freshWait tick
 unfolding restoredOf

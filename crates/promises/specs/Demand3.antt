@@ -57,7 +57,7 @@ pub record Account (a own : Addr) (t : Tally) (h : Held) (c : Call Addr) (s : Sa
   -- "while listed, its number never falls"; "a death notice that removes a peer carries a number no lower than any reported for it"
   pub fine : Along here a own ms t
   -- a step that sends a ping and then waits for the peer b sent it to b, and to nobody else
-  pub pings : (now : ℕ) (ds : List ℕ) (lent : Room) (b n : ℕ) → c ≡ Step now ds lent → toWait (h .wait) .state ≡ W.SendingPing → toWait (h′ .wait) .state ≡ W.WaitingForPingAck b n → map (λ l. l .target) (s .letters) ≡ b ∷ []
+  pub pings : (now : ℕ) (ds : List ℕ) (lent : Room) (b : Addr) (n : ℕ) → c ≡ Step now ds lent → toWait (h .wait) .state ≡ W.SendingPing → toWait (h′ .wait) .state ≡ W.WaitingForPingAck b n → map (λ l. l .target) (s .letters) ≡ b ∷ []
 
 -- the call that took an address out, in a run from one node to another: which one it is, the nodes before and after it, at which of its moments, and by what
 pub record Departure (a : Addr) (n : Node) (w : Wait) (cs : List (Call Addr)) (n′ : Node) (w′ : Wait) : Type 0 where
@@ -96,7 +96,7 @@ split (x ∷ earlier) c later (makes h _ s h′ m rest) =
 
 targets-are : (ms : List (W.Message Addr)) → map (λ (l : Letter). l .target) (map fromMessage ms) ≡ targets ms
 targets-are [] = refl
-targets-are (m ∷ ms) = ap (λ (l : List ℕ). m .target ∷ l) (targets-are ms)
+targets-are (m ∷ ms) = ap (λ (l : List Addr). m .target ∷ l) (targets-are ms)
 
 -- what is known of a call by the rules, as the program sees it
 account : (a own : Addr) (t : Tally) (h : Held) (c : Call Addr) (s : Said) (h′ : Held) (w : World Addr) → w ≡ seen h → Made h c s h′ → Known here a own t c w → Account a own t h c s h′ (moments here c w)

@@ -53,9 +53,24 @@ pub fn put_marked(out: &mut [u8], at: usize, mark: u8, n: u64) -> usize {
     put_number(out, start, n)
 }
 
-// The one place that writes an address: as its number.
+// HIGH.LOW.PORT.
+fn put_bits(out: &mut [u8], at: usize, a: Address) -> usize {
+    let high = put_number(out, at, a.high);
+    let low = put_marked(out, high, b'.', a.low);
+    put_marked(out, low, b'.', a.port as u64)
+}
+
+// The one place that writes an address, in the shortest form that says it: a number, HIGH.LOW.PORT, or FAMILY.HIGH.LOW.PORT.
 fn put_address(out: &mut [u8], at: usize, a: Address) -> usize {
-    put_number(out, at, a)
+    if a.family == Address::V6 {
+        return put_bits(out, at, a);
+    }
+    if words::is_numbered(a) {
+        return put_number(out, at, a.low % Address::NUMBERS * 65536 + a.port as u64);
+    }
+    let family = put_number(out, at, a.family as u64);
+    let mark = put_byte(out, family, b'.');
+    put_bits(out, mark, a)
 }
 
 // A mark and an address after it.

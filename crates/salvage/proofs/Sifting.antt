@@ -1,9 +1,9 @@
 -- The places of an image sifted one after the other.
 -- Assumes nothing.
 use mathlib.Core.Path.{_≡_, refl, ap, sym, _∙_, subst}
-use mathlib.Core.Bool.{Bool, true, false}
+use mathlib.Core.Bool.{true, false}
 use mathlib.Core.List.{List, [], _∷_, _++_, map}
-use Prim.Native.Nat.{ℕ, zero, suc, _+_, _*_, _-_, _≤_, _<_}
+use Prim.Native.Nat.{ℕ, suc, _+_, _*_, _-_, _≤_, _<_}
 use native.Mathlib.Omega.{arith}
 use native.Mathlib.Numerals.{add-one}
 use lib.Dec.{ltb}
@@ -13,9 +13,7 @@ use Rattle.model.specs.Rows.{pick, padTo}
 use Rattle.laws.specs.Pad.{pad-step}
 use Rattle.address.specs.Here.{Addr, here}
 use Rattle.member.specs.declared.Member.{Member}
-use Rattle.member.specs.Views.{nobody}
-use Rattle.image.specs.Image.{Entry, entry, addrIn, stateOf}
-use Rattle.image.specs.Versions.{v1}
+use Rattle.image.specs.Image.{Form, Entry, head, entry, addrIn, stateOf}
 use Rattle.image.specs.Views.{placeOf, entryIn, readMember}
 use Rattle.image.specs.declared.Place.{Place}
 use Rattle.salvage.specs.Salvage.{after, from, standsAt, verdict, wordOf, keptOf, wordAt, wordsOf}
@@ -87,32 +85,32 @@ rank word.State = 1
 rank word.Repeat = 1
 rank word.Kept = 1
 
-kept-place : (held : List Addr) (bytes : List ℕ) → seenOf held bytes .word ≡ word.Kept → seenOf held bytes .place ≡ placeOf (entry v1 .get bytes)
+kept-place : (f : Form Addr) (held : List Addr) (bytes : List ℕ) → seenOf f held bytes .word ≡ word.Kept → seenOf f held bytes .place ≡ placeOf (entry f .get bytes)
 unfolding seenOf wordOf rank
-kept-place held bytes e =
-    (elim (ltb (length bytes) 17) as (λ u. pick u word.Cut (verdict here v1 held (entry v1 .get bytes)) ≡ word.Kept → pick u noPlace (placeOf (entry v1 .get bytes)) ≡ placeOf (entry v1 .get bytes)) [
+kept-place f held bytes e =
+    (elim (ltb (length bytes) (entry f .width)) as (λ u. pick u word.Cut (verdict here held (entry f .get bytes)) ≡ word.Kept → pick u noPlace (placeOf (entry f .get bytes)) ≡ placeOf (entry f .get bytes)) [
       | true ↦ λ q. let z : _≡_ {A = ℕ} 0 1 = ap rank q in absurd (omega arith)
       | false ↦ λ q. refl
     ]) e
 
-seen-word : (bytes : List ℕ) (i : ℕ) (s : Seen) → s ≡ seenOf (map addrIn (keptOf here v1 bytes i)) (from here v1 bytes i) → s .word ≡ wordAt here v1 bytes i
+seen-word : (f : Form Addr) (bytes : List ℕ) (i : ℕ) (s : Seen) → s ≡ seenOf f (map addrIn (keptOf here f bytes i)) (from here f bytes i) → s .word ≡ wordAt here f bytes i
 unfolding seenOf wordAt
-seen-word bytes i s d = ap (λ (x : Seen). x .word) d
+seen-word f bytes i s d = ap (λ (x : Seen). x .word) d
 
 -- the first i places are sifted
-pub record Going (bytes : List ℕ) (n : ℕ) (table : List Member) (kept : List Addr) (words : List Said) (len i : ℕ) : Type 0 where
+pub record Going (f : Form Addr) (bytes : List ℕ) (n : ℕ) (table : List Member) (kept : List Addr) (words : List Said) (len i : ℕ) : Type 0 where
   pub passed : i ≤ n
-  pub many : len ≡ length (keptOf here v1 bytes i)
+  pub many : len ≡ length (keptOf here f bytes i)
   pub few : len ≤ i
   pub table-long : length table ≡ 64
   pub kept-long : length kept ≡ 64
-  pub table-is : take len table ≡ map readMember (keptOf here v1 bytes i)
-  pub kept-is : take len kept ≡ map addrIn (keptOf here v1 bytes i)
-  pub words-are : words ≡ rowOfWords (wordsOf here v1 bytes i)
+  pub table-is : take len table ≡ map readMember (keptOf here f bytes i)
+  pub kept-is : take len kept ≡ map addrIn (keptOf here f bytes i)
+  pub words-are : words ≡ rowOfWords (wordsOf here f bytes i)
 
-pub going-none : (bytes : List ℕ) (n : ℕ) (m : Member) (a : Addr) (s : Said) → s ≡ said word.Cut → Going bytes n (replicate 64 m) (replicate 64 a) (replicate 64 s) 0 0
+pub going-none : (f : Form Addr) (bytes : List ℕ) (n : ℕ) (m : Member) (a : Addr) (s : Said) → s ≡ said word.Cut → Going f bytes n (replicate 64 m) (replicate 64 a) (replicate 64 s) 0 0
 unfolding keptOf wordsOf rowOfWords
-going-none bytes n m a s e =
+going-none f bytes n m a s e =
     record {
       passed = omega arith;
       many = refl;
@@ -124,32 +122,32 @@ going-none bytes n m a s e =
       words-are = ap (replicate 64) e;
     }
 
-module _ (bytes : List ℕ) (n : ℕ) (table : List Member) (kept : List Addr) (words : List Said) (len i : ℕ) (g : Going bytes n table kept words len i) where
-  pub going-more : (s : Seen) (m : Member) (k : ℕ) → n ≤ 64 → i < n → s ≡ seenOf (take len kept) (drop (14 + i * 17) bytes)
+module _ (f : Form Addr) (bytes : List ℕ) (n : ℕ) (table : List Member) (kept : List Addr) (words : List Said) (len i : ℕ) (g : Going f bytes n table kept words len i) where
+  pub going-more : (at : ℕ) (s : Seen) (m : Member) (k : ℕ) → n ≤ 64 → i < n → at ≡ head f .width + i * entry f .width → s ≡ seenOf f (take len kept) (drop at bytes)
       → m ≡ record { addr = s .place .addr; state = stateOf (s .place .state); number = s .place .number } → k ≡ moreOf (s .word)
-      → Going bytes n (set table len m) (set kept len (s .place .addr)) (set words i (said (s .word))) (len + k) (i + 1)
+      → Going f bytes n (set table len m) (set kept len (s .place .addr)) (set words i (said (s .word))) (len + k) (i + 1)
   unfolding keptOf wordsOf wordAt
-  going-more s m k few h e f q =
-      let seen : s ≡ seenOf (map addrIn (keptOf here v1 bytes i)) (from here v1 bytes i) = e ∙ ap (λ (l : List Addr). seenOf l (from here v1 bytes i)) (g .kept-is) in
-      let w : s .word ≡ wordAt here v1 bytes i = seen-word bytes i s seen in
-      let place : s .word ≡ word.Kept → s .place ≡ placeOf (standsAt here v1 bytes i) = λ t.
-      ap (λ (x : Seen). x .place) seen ∙ kept-place (map addrIn (keptOf here v1 bytes i)) (from here v1 bytes i) (sym (ap (λ (x : Seen). x .word) seen) ∙ t) in
+  going-more at s m k few h p e r q =
+      let seen : s ≡ seenOf f (map addrIn (keptOf here f bytes i)) (from here f bytes i) = e ∙ (λ j. seenOf f (g .kept-is j) (drop (p j) bytes)) in
+      let w : s .word ≡ wordAt here f bytes i = seen-word f bytes i s seen in
+      let place : s .word ≡ word.Kept → s .place ≡ placeOf (standsAt here f bytes i) = λ t.
+      ap (λ (x : Seen). x .place) seen ∙ kept-place f (map addrIn (keptOf here f bytes i)) (from here f bytes i) (sym (ap (λ (x : Seen). x .word) seen) ∙ t) in
       let q′ = q ∙ ap moreOf w in
-      let t : take (len + k) (set table len m) ≡ map readMember (keptOf here v1 bytes (suc i)) =
+      let t : take (len + k) (set table len m) ≡ map readMember (keptOf here f bytes (suc i)) =
       ap (λ (j : ℕ). take (len + j) (set table len m)) q′
-      ∙ row-after readMember table len (keptOf here v1 bytes i) (wordAt here v1 bytes i) m (standsAt here v1 bytes i) (omega (arith, g .table-long, g .few)) (g .table-is)
-      (λ z. f ∙ ap (λ (x : Place). readMember (entryIn x)) (place (w ∙ z))) in
-      let a : take (len + k) (set kept len (s .place .addr)) ≡ map addrIn (keptOf here v1 bytes (suc i)) =
+      ∙ row-after readMember table len (keptOf here f bytes i) (wordAt here f bytes i) m (standsAt here f bytes i) (omega (arith, g .table-long, g .few)) (g .table-is)
+      (λ z. r ∙ ap (λ (x : Place). readMember (entryIn x)) (place (w ∙ z))) in
+      let a : take (len + k) (set kept len (s .place .addr)) ≡ map addrIn (keptOf here f bytes (suc i)) =
       ap (λ (j : ℕ). take (len + j) (set kept len (s .place .addr))) q′
-      ∙ row-after addrIn kept len (keptOf here v1 bytes i) (wordAt here v1 bytes i) (s .place .addr) (standsAt here v1 bytes i) (omega (arith, g .kept-long, g .few)) (g .kept-is)
+      ∙ row-after addrIn kept len (keptOf here f bytes i) (wordAt here f bytes i) (s .place .addr) (standsAt here f bytes i) (omega (arith, g .kept-long, g .few)) (g .kept-is)
       (λ z. ap (λ (x : Place). x .addr) (place (w ∙ z))) in
-      let c : len + k ≡ length (keptOf here v1 bytes (suc i)) =
-      (λ j. g .many j + q′ j) ∙ many-after (keptOf here v1 bytes i) (wordAt here v1 bytes i) (standsAt here v1 bytes i) in
-      let v : set words i (said (s .word)) ≡ rowOfWords (wordsOf here v1 bytes (suc i)) =
+      let c : len + k ≡ length (keptOf here f bytes (suc i)) =
+      (λ j. g .many j + q′ j) ∙ many-after (keptOf here f bytes i) (wordAt here f bytes i) (standsAt here f bytes i) in
+      let v : set words i (said (s .word)) ≡ rowOfWords (wordsOf here f bytes (suc i)) =
       (λ j. set (g .words-are j) i (said (w j)))
-      ∙ words-more (wordsOf here v1 bytes i) i (wordAt here v1 bytes i) (words-many here v1 bytes i) (omega arith) in
+      ∙ words-more (wordsOf here f bytes i) i (wordAt here f bytes i) (words-many here f bytes i) (omega arith) in
       let l : k ≤ 1 = omega (arith, q, few-more (s .word)) in
-      subst (λ (j : ℕ). Going bytes n (set table len m) (set kept len (s .place .addr)) (set words i (said (s .word))) (len + k) j) (sym (add-one i))
+      subst (λ (j : ℕ). Going f bytes n (set table len m) (set kept len (s .place .addr)) (set words i (said (s .word))) (len + k) j) (sym (add-one i))
       (record {
         passed = omega arith;
         many = c;
@@ -161,7 +159,7 @@ module _ (bytes : List ℕ) (n : ℕ) (table : List Member) (kept : List Addr) (
         words-are = v;
       })
 
-  pub going-done : n ≤ i → Sifts bytes n (record { table = table; len = len; words = words })
+  pub going-done : n ≤ i → Sifts f bytes n (record { table = table; len = len; words = words })
   going-done h =
       let e : i ≡ n = omega (arith, g .passed) in
-      subst (λ (j : ℕ). Sifts bytes j (record { table = table; len = len; words = words })) e (record { many = g .many; few = g .few; table = g .table-is; words = g .words-are })
+      subst (λ (j : ℕ). Sifts f bytes j (record { table = table; len = len; words = words })) e (record { many = g .many; few = g .few; table = g .table-is; words = g .words-are })

@@ -1,9 +1,9 @@
--- What is left can be restored; an image that can be restored is left as it is, with every place kept; and salvaged again, a result stays. For any type of address and its bytes.
+-- What is left can be restored; an image that can be restored is left as it is, with every place kept; and salvaged again, a result stays. For any type of address and two forms of its bytes.
 -- Assumes nothing.
-use mathlib.Core.Path.{_≡_, refl, ap, sym, _∙_, subst}
+use mathlib.Core.Path.{_≡_, refl, ap, sym, _∙_}
 use mathlib.Core.Bool.{Bool, true, false, not, _&&_}
 use mathlib.Core.List.{List, [], _∷_, _++_, map}
-use Prim.Native.Nat.{ℕ, zero, suc, _+_, _*_, _-_, _^_, _≤_, _<_, min}
+use Prim.Native.Nat.{ℕ, zero, suc, _+_, _*_, _-_, _^_, _≤_, _<_}
 use native.Mathlib.Omega.{arith}
 use native.Mathlib.Nat.{suc-mul}
 use lib.Dec.{eqb, ltb, leb}
@@ -11,18 +11,19 @@ use lib.ListN.{length, getD, take, drop, replicate, length-append, length-map}
 use lib.Seq.{take-suc, take-all, drop-drop}
 use borrow.Author.Tests.{leb-true, eqb-true, eqb-false, eq-eqb, ltb-true, ltb-false, lt-ltb, not-true}
 use Rattle.model.specs.Rows.{one, pick, every, has, occurs}
-use Rattle.model.specs.Words.{Address, Lawful, Member}
-use Rattle.model.specs.Members.{addrs}
+use Rattle.model.specs.Words.{Address, Lawful}
 use Rattle.model.specs.Sound.{distinct, positioned}
 use Rattle.laws.specs.Bools.{and-split, and-join, every-append}
 use Rattle.laws.specs.Counts.{occurs-append, has-none}
 use Rattle.laws_list.specs.Distinct.{once-distinct}
 use Rattle.numbers.specs.Numbers.{Bytes}
 use Rattle.numbers.specs.NumberLaws.{bytes-drop, number-small}
-use Rattle.numbers.specs.Codec.{Exact, number, many-count, many-at}
-use Rattle.image.specs.Image.{Form, opening, Entry, Image, head, entry, layout, addrIn, ownIn, entriesIn, positionIn, memberOf, Saved, savedOf, image, marked, counted, sized, fields, stateInRule, addressInRule, inRule}
-use Rattle.image.specs.Round.{members-addrs, Storable, Savable, Says, says-image, image-read}
-use Rattle.salvage.specs.Salvage.{after, from, standsAt, keptOf, wordAt, wordsOf, places, kept, positionOf, ownOf, left, headed}
+use Rattle.numbers.specs.Codec.{number, many-count, many-at}
+use Rattle.image.specs.Image.{Form, Entry, head, entry, layout, addrIn, ownIn, entriesIn, positionIn, memberOf, Saved, marked, counted, sized, fields, stateInRule, addressInRule, inRule}
+use Rattle.image.specs.Forms.{Forms, wideOf, formIn, imageOf, Sure}
+use Rattle.image.specs.Round.{members-addrs, Numbered, Savable, Says}
+use Rattle.image.specs.Chosen.{Tells, image-opens, tells-image, image-told}
+use Rattle.salvage.specs.Salvage.{after, from, standsAt, keptOf, wordAt, wordsOf, places, kept, positionOf, ownOf, left, leftOf, result, headed}
 use Rattle.salvage.specs.Salvage as S
 use Rattle.salvage.specs.Rule.{map-snoc, exactly, kept-if, kept-new}
 use Rattle.salvage.specs.declared.Word.{Word}
@@ -60,19 +61,19 @@ stays p n h =
         ]) h
 
 -- what is kept is in rule
-module _ {A : Type 0} (address : Address A) (lawful : Lawful address) (f : Form A) (F : A → Type 0) (exact : Exact (f .address) F) (small : (a : A) → address .valid a ≡ true → F a) where
+module _ {A : Type 0} (address : Address A) (lawful : Lawful address) (f : Form A) where
   record Sifted (k : ℕ) (l : List (Entry A)) : Type 0 where
     few : length l ≤ k
     valid : every (address .valid) (map addrIn l) ≡ true
     once : (a : A) → occurs (address .same) a (map addrIn l) ≤ 1
-    fits : Storable F (map memberOf l)
+    numbers : Numbered (map memberOf l)
 
   same-still : (k : ℕ) (l : List (Entry A)) → Sifted k l → Sifted (suc k) l
-  same-still k l s = record { few = omega (arith, s .few); valid = s .valid; once = s .once; fits = s .fits }
+  same-still k l s = record { few = omega (arith, s .few); valid = s .valid; once = s .once; numbers = s .numbers }
 
-  fits-snoc : (l : List (Entry A)) (e : Entry A) → Storable F (map memberOf l) → F (addrIn e) → e .second .second < 2 ^ 64 → Storable F (map memberOf (l ++ (e ∷ [])))
-  fits-snoc [] e h a n = (a, n, tt)
-  fits-snoc (x ∷ l) e h a n = (h .0, h .1, fits-snoc l e (h .2) a n)
+  numbers-snoc : (l : List (Entry A)) (e : Entry A) → Numbered (map memberOf l) → e .second .second < 2 ^ 64 → Numbered (map memberOf (l ++ (e ∷ [])))
+  numbers-snoc [] e h n = (n, tt)
+  numbers-snoc (x ∷ l) e h n = (h .0, numbers-snoc l e (h .1) n)
 
   one-more : (k : ℕ) (l : List (Entry A)) (e : Entry A) → Sifted k l → address .valid (addrIn e) ≡ true → has (address .same) (addrIn e) (map addrIn l) ≡ false → e .second .second < 2 ^ 64
       → Sifted (suc k) (l ++ (e ∷ []))
@@ -84,7 +85,7 @@ module _ {A : Type 0} (address : Address A) (lawful : Lawful address) (f : Form 
             let z : occurs (address .same) a (map addrIn (l ++ (e ∷ []))) ≡ occurs (address .same) a (map addrIn l) + (one (address .same a (addrIn e)) + 0) =
             ap (occurs (address .same) a) (map-snoc addrIn l e) ∙ occurs-append (address .same) a (map addrIn l) (addrIn e ∷ []) in
             omega (arith, z, apart a);
-        fits = fits-snoc l e (s .fits) (small (addrIn e) v) n;
+        numbers = numbers-snoc l e (s .numbers) n;
       }
     where
       apart : (a : A) → occurs (address .same) a (map addrIn l) + one (address .same a (addrIn e)) ≤ 1
@@ -100,7 +101,7 @@ module _ {A : Type 0} (address : Address A) (lawful : Lawful address) (f : Form 
   module _ (bytes : List ℕ) (b : Bytes bytes) where
     sifted : (i : ℕ) → Sifted i (keptOf address f bytes i)
     unfolding keptOf wordAt
-    sifted zero = record { few = omega arith; valid = refl; once = λ a. omega arith; fits = tt }
+    sifted zero = record { few = omega arith; valid = refl; once = λ a. omega arith; numbers = tt }
     sifted (suc i) =
         let n : standsAt address f bytes i .second .second < 2 ^ 64 =
         number-small 8 (drop 1 (drop (f .address .width) (from address f bytes i)))
@@ -116,16 +117,15 @@ module _ {A : Type 0} (address : Address A) (lawful : Lawful address) (f : Form 
         ]) refl
 
     -- what is left can be saved
-    pub left-savable : address .valid (ownOf address f bytes) ≡ true → Savable address f F exact (left address f bytes)
+    pub left-savable : address .valid (ownOf address f bytes) ≡ true → Savable address (left address f bytes)
     unfolding left places positionOf
     left-savable own =
         let s = sifted (places address f bytes) in
         let n = length-map (kept address f bytes) memberOf in
         let a = members-addrs (kept address f bytes) in
         record {
-          own-fits = small (ownOf address f bytes) own;
           own-valid = own;
-          rows-fit = s .fits;
+          numbers = s .numbers;
           few = omega (arith, n, s .few);
           valid = ap (every (address .valid)) a ∙ s .valid;
           once = ap (distinct (address .same)) a ∙ once-distinct (address .same) (lawful .test) (map addrIn (kept address f bytes)) (s .once);
@@ -133,10 +133,6 @@ module _ {A : Type 0} (address : Address A) (lawful : Lawful address) (f : Form 
               ap (positioned (left address f bytes .position)) n
               ∙ placed (left address f bytes .position) (length (kept address f bytes)) (in-range (number 1 .get (from address f bytes (places address f bytes))) (length (kept address f bytes)));
         }
-
-    -- "Restore with settings in range always accepts its result": its image passes every test, and says what is left
-    pub left-says : opening f < 256 ^ 5 → address .valid (ownOf address f bytes) ≡ true → Says address f F exact (image f (left address f bytes)) (left address f bytes)
-    left-says o own = says-image address f F exact o (left address f bytes) (left-savable own)
 
 -- ---- an image that passes every test
 every-at : {B : Type 0} (p : B → Bool) (l : List B) (i : ℕ) (d : B) → i < length l → every p l ≡ true → p (getD l i d) ≡ true
@@ -181,7 +177,7 @@ module _ {A : Type 0} (address : Address A) (lawful : Lawful address) where
         | false ↦ λ q. r
       ]) refl
 
-module _ {A : Type 0} (address : Address A) (lawful : Lawful address) (f : Form A) (F : A → Type 0) (exact : Exact (f .address) F) (bytes : List ℕ) (s : Saved A) (t : Says address f F exact bytes s) where
+module _ {A : Type 0} (address : Address A) (lawful : Lawful address) (f : Form A) (bytes : List ℕ) (s : Saved A) (t : Says address f bytes s) where
   abbrev E : List (Entry A)
   E = entriesIn (fields f bytes)
 
@@ -276,5 +272,27 @@ module _ {A : Type 0} (address : Address A) (lawful : Lawful address) (f : Form 
   unfolding headed sized
   headed-there = and-join (and-split (leb (head f .width) (length bytes)) (eqb (length bytes) (layout f n .width)) (t .is-sized) .0) own-there
 
-  pub image-same : Bytes bytes → image f (left address f bytes) ≡ bytes
-  image-same b = ap (image f) left-same ∙ image-read address f F exact bytes b s t
+-- of either version
+module _ {A : Type 0} (address : Address A) (lawful : Lawful address) (forms : Forms A) (bytes : List ℕ) where
+  -- what an image says is left of it
+  pub result-is : (s : Saved A) → Tells address forms bytes s → result address forms bytes ≡ imageOf forms s
+  result-is s t = ap (imageOf forms) (left-same address lawful (formIn forms bytes) bytes s (t .says))
+
+  module _ (sure : Sure address forms) (b : Bytes bytes) where
+    savable : headed address (formIn forms bytes) bytes ≡ true → Savable address (leftOf address forms bytes)
+    unfolding headed
+    savable h =
+        let own = and-split (leb (head (formIn forms bytes) .width) (length bytes)) (address .valid (ownOf address (formIn forms bytes) bytes)) h .1 in
+        left-savable address lawful (formIn forms bytes) bytes b own
+
+    -- "Restore with settings in range always accepts its result": its image passes every test, and says what is left
+    pub result-tells : headed address (formIn forms bytes) bytes ≡ true → Tells address forms (result address forms bytes) (leftOf address forms bytes)
+    result-tells h = tells-image address forms sure (leftOf address forms bytes) (savable h)
+
+    -- "All others are version 1, also from salvage": it opens as the wide form exactly if own or a kept address needs that
+    pub result-opens : headed address (formIn forms bytes) bytes ≡ true → marked (forms .wide) (result address forms bytes) ≡ wideOf forms (leftOf address forms bytes)
+    result-opens h = image-opens address forms sure (leftOf address forms bytes) (savable h)
+
+    -- "On an image that restore accepts, it changes nothing"
+    pub result-same : (s : Saved A) → Tells address forms bytes s → result address forms bytes ≡ bytes
+    result-same s t = result-is s t ∙ image-told address forms sure bytes b s t

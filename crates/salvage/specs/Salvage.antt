@@ -1,4 +1,4 @@
--- "Salvage of a saved list": which places of an image are kept, what is said of each, and the list that is left. For any type of address and its bytes.
+-- "Salvage of a saved list": which places of an image are kept, what is said of each, and the list that is left. For any type of address and two forms of its bytes.
 -- Assumes nothing.
 use mathlib.Core.Bool.{Bool, not, _&&_}
 use mathlib.Core.List.{List, [], _∷_, _++_, map}
@@ -12,7 +12,8 @@ use Rattle.model.specs.Bounds.{list-places}
 use Rattle.model.specs.Words.{Address}
 use Rattle.model.specs.Calls.{firstOf}
 use Rattle.numbers.specs.Codec.{number}
-use Rattle.image.specs.Image.{Form, Entry, head, entry, addrIn, memberOf, addressInRule, stateInRule, Saved, image, marked, counted}
+use Rattle.image.specs.Image.{Form, Entry, head, entry, addrIn, memberOf, addressInRule, stateInRule, Saved, marked, counted}
+use Rattle.image.specs.Forms.{Forms, formIn, imageOf}
 use Rattle.salvage.specs.declared.Word.{Word}
 use Rattle.salvage.specs.declared.Word.the-variants as word
 
@@ -33,14 +34,11 @@ after word.State l x = l
 after word.Repeat l x = l
 after word.Kept l x = l ++ (x ∷ [])
 
-module _ {A : Type 0} (address : Address A) (f : Form A) where
-  -- the bytes from a place on, and what stands there
-  abbrev pub from : List ℕ → ℕ → List ℕ
-  from bytes i = drop (head f .width + i * entry f .width) bytes
+-- "sets the position to 0 if it is out of range or missing": it stands after the places that are read, and where there is no byte 0 is read
+unfoldable pub positionOf : List ℕ → ℕ → ℕ
+positionOf bytes n = let p = number 1 .get bytes in pick (ltb p n) p 0
 
-  abbrev pub standsAt : List ℕ → ℕ → Entry A
-  standsAt bytes i = entry f .get (from bytes i)
-
+module _ {A : Type 0} (address : Address A) where
   -- "the first that holds of dropped for address, dropped for state, dropped as a repeat of a kept one, else kept"
   unfoldable pub verdict : List A → Entry A → Word
   verdict kept e =
@@ -49,9 +47,17 @@ module _ {A : Type 0} (address : Address A) (f : Form A) where
       (pick (has (address .same) (addrIn e) kept) word.Repeat
       word.Kept))
 
+module _ {A : Type 0} (address : Address A) (f : Form A) where
+  -- the bytes from a place on, and what stands there
+  abbrev pub from : List ℕ → ℕ → List ℕ
+  from bytes i = drop (head f .width + i * entry f .width) bytes
+
+  abbrev pub standsAt : List ℕ → ℕ → Entry A
+  standsAt bytes i = entry f .get (from bytes i)
+
   -- "cut if its bytes are not all there": the word for a place, by the bytes from it on and the addresses kept before it
   unfoldable pub wordOf : List A → List ℕ → Word
-  wordOf kept bytes = pick (ltb (length bytes) (entry f .width)) word.Cut (verdict kept (entry f .get bytes))
+  wordOf kept bytes = pick (ltb (length bytes) (entry f .width)) word.Cut (verdict address kept (entry f .get bytes))
 
   -- "keeps in order": what is kept of the first places
   unfoldable pub keptOf : List ℕ → ℕ → List (Entry A)
@@ -76,10 +82,6 @@ module _ {A : Type 0} (address : Address A) (f : Form A) where
   abbrev pub words : List ℕ → List Word
   words bytes = wordsOf bytes (places bytes)
 
-  -- "sets the position to 0 if it is out of range or missing": it stands after the places that are read, and where there is no byte 0 is read
-  unfoldable pub positionOf : List ℕ → ℕ → ℕ
-  positionOf bytes n = let p = number 1 .get bytes in pick (ltb p n) p 0
-
   abbrev pub ownOf : List ℕ → A
   ownOf bytes = head f .get bytes .second .first
 
@@ -92,22 +94,33 @@ module _ {A : Type 0} (address : Address A) (f : Form A) where
         position = positionOf (from bytes (places bytes)) (length (kept bytes));
       }
 
-  -- "16 if the image has fewer than 14 bytes or its own address is out of range"
+  -- "16 if the image has fewer than 14 bytes or its own address is out of range"; "Salvage's 14-byte header is 25 bytes in version 2"
   unfoldable pub headed : List ℕ → Bool
   headed bytes = leb (head f .width) (length bytes) && address .valid (ownOf bytes)
+
+module _ {A : Type 0} (address : Address A) (forms : Forms A) where
+  -- the list that is left of an image, which is read in the version that it has
+  abbrev pub leftOf : List ℕ → Saved A
+  leftOf bytes = left address (formIn forms bytes) bytes
+
+  -- "All others are version 1, also from salvage": the image of that list, in the version that the list needs
+  abbrev pub result : List ℕ → List ℕ
+  result bytes = imageOf forms (leftOf bytes)
 
   -- "Refusals: 14 as before; then 16 ..; then 12"
   abbrev pub salvageTests : List ℕ → ℕ → List (Bool × Refusal)
   salvageTests bytes room =
-      (not (marked f bytes), WrongMark)
-      ∷ (not (headed bytes), OutOfRule)
-      ∷ (ltb room (length (image f (left bytes))), NoRoom)
+      (not (marked (formIn forms bytes) bytes), WrongMark)
+      ∷ (not (headed address (formIn forms bytes) bytes), OutOfRule)
+      ∷ (ltb room (length (result bytes)), NoRoom)
       ∷ []
 
   -- refused, nothing is written; places past the last stay as lent
   unfoldable pub salvage : List ℕ → List ℕ → Salvage
   salvage bytes row =
-      let result = image f (left bytes) in
       firstOf (salvageTests bytes (length row))
       (λ r. record { ends = notSalvaged r; row = row })
-      (record { ends = salvaged (length result) (counted f bytes) (words bytes); row = result ++ drop (length result) row })
+      (record {
+        ends = salvaged (length (result bytes)) (counted (formIn forms bytes) bytes) (words address (formIn forms bytes) bytes);
+        row = result bytes ++ drop (length (result bytes)) row;
+      })

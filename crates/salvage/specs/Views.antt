@@ -1,18 +1,14 @@
 -- The words of the contracts.
 -- Assumes nothing.
 use mathlib.Core.Path.{_≡_}
-use mathlib.Core.Bool.{Bool}
 use mathlib.Core.List.{List, [], map}
 use Prim.Native.Nat.{ℕ, _≤_}
 use lib.ListN.{length, take}
 use lib.Dec.{ltb}
 use Rattle.model.specs.Rows.{pick, padTo}
 use Rattle.address.specs.Here.{Addr, here}
-use Rattle.model.specs.Words as words
-use Rattle.member.specs.declared.Member.{Member}
-use Rattle.member.specs.Views.{toMember}
-use Rattle.image.specs.Image.{Entry, entry, addrIn, memberOf}
-use Rattle.image.specs.Versions.{v1}
+use Rattle.image.specs.Image.{Form, entry}
+use Rattle.image.specs.Versions.{versions}
 use Rattle.image.specs.Views.{placeOf, readMember}
 use Rattle.image.specs.declared.Place.{Place}
 use Rattle.salvage.specs.Salvage.{Ending, salvaged, notSalvaged, Salvage, wordOf, keptOf, wordsOf, salvage}
@@ -37,8 +33,8 @@ abbrev pub noPlace : Place
 noPlace = record { addr = here .blank; state = 0; number = 0 }
 
 -- what is seen of the place at the start of some bytes
-unfoldable pub seenOf : List Addr → List ℕ → Seen
-seenOf kept bytes = record { word = wordOf here v1 kept bytes; place = pick (ltb (length bytes) (entry v1 .width)) noPlace (placeOf (entry v1 .get bytes)) }
+unfoldable pub seenOf : Form Addr → List Addr → List ℕ → Seen
+seenOf f kept bytes = record { word = wordOf here f kept bytes; place = pick (ltb (length bytes) (entry f .width)) noPlace (placeOf (entry f .get bytes)) }
 
 -- a kept place is one more
 unfoldable pub moreOf : Word → ℕ
@@ -49,11 +45,11 @@ moreOf word.Repeat = 0
 moreOf word.Kept = 1
 
 -- the first n places sifted: the records kept stand first in the table, and the words in their row
-pub record Sifts (bytes : List ℕ) (n : ℕ) (s : Sifted) : Type 0 where
-  pub many : s .len ≡ length (keptOf here v1 bytes n)
+pub record Sifts (f : Form Addr) (bytes : List ℕ) (n : ℕ) (s : Sifted) : Type 0 where
+  pub many : s .len ≡ length (keptOf here f bytes n)
   pub few : s .len ≤ n
-  pub table : take (s .len) (s .table) ≡ map readMember (keptOf here v1 bytes n)
-  pub words : s .words ≡ rowOfWords (wordsOf here v1 bytes n)
+  pub table : take (s .len) (s .table) ≡ map readMember (keptOf here f bytes n)
+  pub words : s .words ≡ rowOfWords (wordsOf here f bytes n)
 
 abbrev pub notDone : Ends → Salvaged
 notDone e = record { ends = e; count = 0; places = 0; words = rowOfWords [] }
@@ -64,7 +60,7 @@ endingOf (notSalvaged r) = notDone (ends.Refused r)
 
 -- salvaging an image into a lent row
 abbrev pub salvageOf : List ℕ → List ℕ → Salvage
-salvageOf bytes row = salvage here v1 bytes row
+salvageOf bytes row = salvage here versions bytes row
 
 pub record Salvages (bytes row : List ℕ) (r : Salvaged) (row′ : List ℕ) : Type 0 where
   pub answer : r ≡ endingOf (salvageOf bytes row .ends)

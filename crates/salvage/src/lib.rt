@@ -1,18 +1,15 @@
 // Salvage of a saved list: the records that are in rule are kept in order, the others dropped, with a word for each.
 use address::Address;
 use image::Place;
-use image::Version1;
 use image::Written;
 use member::Member;
 use model::Refusal;
 ghost use mathlib.Core.Path.{_≡_};
-ghost use mathlib.Core.List.{map};
 ghost use Prim.Native.Nat.{_+_, _≤_, min};
 ghost use lib.ListN.{length, take, drop};
 ghost use Rattle.address.specs.Here.{here};
 ghost use Rattle.model.specs.Rows.{has};
-ghost use Rattle.image.specs.Image.{counted};
-ghost use Rattle.image.specs.Versions.{v1};
+ghost use Rattle.image.specs.Versions.{version};
 ghost use Rattle.image.specs.Views.{entryIn};
 ghost use Rattle.salvage.specs.Salvage.{verdict, headed, positionOf};
 ghost use Rattle.salvage.specs.Views.{said, noPlace, seenOf, moreOf, Sifts, notDone, Salvages};
@@ -77,13 +74,13 @@ fn repeats(row: [Address; 64], n: usize, a: Address) -> bool
     requires { ⌜ n ≤ 64 ⌝ }
     ensures { λ r. ⌜ r ≡ has (here .same) a (take n row) ⌝ }
 {
-    order::find_place(&row, n, a) < n
+    order::find_place(row, n, a) < n
 }
 
-// The word for a whole place, behind those kept before it.
+// The word for a whole place, behind those kept before it. No version is asked for.
 fn judged(p: Place, kept: [Address; 64], n: usize) -> Word
     requires { ⌜ n ≤ 64 ⌝ }
-    ensures { λ r. ⌜ r ≡ verdict here v1 (take n kept) (entryIn p) ⌝ }
+    ensures { λ r. ⌜ r ≡ verdict here (take n kept) (entryIn p) ⌝ }
 {
     if !address::in_range(p.addr) {
         return Word::Address;
@@ -108,17 +105,17 @@ fn nothing() -> Place
 }
 
 // The place that begins at a byte.
-fn look(bytes: &[u8], at: usize, kept: [Address; 64], n: usize) -> Seen
-    requires { ⌜ (n ≤ 64) × (at ≤ 4096) ⌝ }
-    ensures { λ r. ⌜ r ≡ seenOf (take n kept) (drop at (now (bytes .entry))) ⌝ }
+fn look(bytes: &[u8], at: usize, wide: bool, kept: [Address; 64], n: usize) -> Seen
+    requires { ⌜ (n ≤ 64) × (at ≤ 8192) ⌝ }
+    ensures { λ r. ⌜ r ≡ seenOf (version wide) (take n kept) (drop at (now (bytes .entry))) ⌝ }
 {
-    if bytes.len() < at + Version1::PLACE {
+    if bytes.len() < at + image::place_size(wide) {
         return Seen {
             word: Word::Cut,
             place: nothing(),
         };
     }
-    let place = image::get_place(bytes, at);
+    let place = image::get_place(bytes, at, wide);
     Seen {
         word: judged(place, kept, n),
         place,
@@ -139,9 +136,9 @@ fn more(word: Word) -> usize
 }
 
 // The first places, one after the other. What is dropped is overwritten by the next that is kept.
-fn sift(bytes: &[u8], places: usize) -> Sifted
+fn sift(bytes: &[u8], places: usize, wide: bool) -> Sifted
     requires { ⌜ places ≤ 64 ⌝ }
-    ensures { λ r. ⌜ Sifts (now (bytes .entry)) places r ⌝ }
+    ensures { λ r. ⌜ Sifts (version wide) (now (bytes .entry)) places r ⌝ }
 {
     let mut table = [Member::none(); 64];
     let mut kept = [address::blank(); 64];
@@ -149,11 +146,12 @@ fn sift(bytes: &[u8], places: usize) -> Sifted
     let mut len: usize = 0;
     let mut i: usize = 0;
     while i < places {
-        let seen = look(bytes, Version1::HEAD + i * Version1::PLACE, kept, len);
+        let seen = look(bytes, image::place_at(i, wide), wide, kept, len);
         let place = seen.place;
         let word = seen.word;
         table[len] = image::member_of(place);
-        kept[len] = place.addr;
+        let addr = place.addr;
+        kept[len] = addr;
         words[i] = Said { word };
         len += more(word);
         i += 1;
@@ -163,7 +161,7 @@ fn sift(bytes: &[u8], places: usize) -> Sifted
 
 // The position that stands at a byte, if it is one of n; 0 if it isn't, or is missing.
 fn position_at(bytes: &[u8], at: usize, n: usize) -> usize
-    ensures { λ r. ⌜ r ≡ positionOf here v1 (drop at (now (bytes .entry))) n ⌝ }
+    ensures { λ r. ⌜ r ≡ positionOf (drop at (now (bytes .entry))) n ⌝ }
 {
     if bytes.len() <= at {
         return 0;
@@ -176,21 +174,13 @@ fn position_at(bytes: &[u8], at: usize, n: usize) -> usize
 }
 
 // 16: is there a whole head, with an own address in range?
-fn is_headed(bytes: &[u8]) -> bool
-    ensures { λ r. ⌜ r ≡ headed here v1 (now (bytes .entry)) ⌝ }
+fn is_headed(bytes: &[u8], wide: bool) -> bool
+    ensures { λ r. ⌜ r ≡ headed here (version wide) (now (bytes .entry)) ⌝ }
 {
-    if bytes.len() < Version1::HEAD {
+    if bytes.len() < image::head_size(wide) {
         return false;
     }
-    address::in_range(image::get_address(bytes, 5))
-}
-
-// The count as it stands.
-fn count_in(bytes: &[u8]) -> usize
-    requires { ⌜ 14 ≤ length (now bytes) ⌝ }
-    ensures { λ r. ⌜ r ≡ counted v1 (now (bytes .entry)) ⌝ }
-{
-    numbers::get_number(bytes, 13, 1) as usize
+    address::in_range(image::get_address(bytes, 5, wide))
 }
 
 fn at_most_64(count: usize) -> usize
@@ -218,20 +208,20 @@ fn refused(refusal: Refusal) -> Salvaged
 pub fn salvage(bytes: &[u8], out: &mut [u8]) -> Salvaged
     ensures { λ r. ⌜ Salvages (now (bytes .entry)) (now (out .entry)) r (now (out .exit)) ⌝ }
 {
+    let wide = image::is_wide(bytes);
     if !image::is_marked(bytes) {
         return refused(Refusal::WrongMark);
     }
-    if !is_headed(bytes) {
+    if !is_headed(bytes, wide) {
         return refused(Refusal::OutOfRule);
     }
-    let count = count_in(bytes);
+    let count = image::count_in(bytes, wide);
     let places = at_most_64(count);
-    let own = image::get_address(bytes, 5);
-    let sifted = sift(bytes, places);
+    let own = image::get_address(bytes, 5, wide);
+    let sifted = sift(bytes, places, wide);
     let table = sifted.table;
     let words = sifted.words;
-    let after = Version1::HEAD + places * Version1::PLACE;
-    let position = position_at(bytes, after, sifted.len);
+    let position = position_at(bytes, image::place_at(places, wide), sifted.len);
     let written = image::write(out, own, table, sifted.len, position);
     match written {
         Written::TooLong => refused(Refusal::NoRoom),

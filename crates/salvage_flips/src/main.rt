@@ -1,5 +1,5 @@
-// Damaged images: every single-bit flip and every truncation of a small one, each answer printed; every flip of a full one, summed up. What must be printed was
-// reasoned from the change request by a script of its own, oracle/salvage_answers.py, which also wrote the two images on standard input.
+// Damaged images of either version: every single-bit flip and every truncation of a small one, each answer printed; every flip of a full one, summed up. What must
+// be printed was reasoned from the change requests by a script of its own, oracle/salvage_answers.py, which also wrote the images on standard input.
 mod tell;
 
 use libc::STDIN_FILENO;
@@ -8,17 +8,6 @@ use tell::Tally;
 use tell::put_case;
 use tell::put_tally;
 use tell::tallied;
-
-// The images: their sizes.
-struct Sizes {
-    small: usize,
-}
-
-impl Sizes {
-    const SMALL: usize = 66;
-
-    const FULL: usize = 1103;
-}
 
 fn mask(bit: usize) -> u8 {
     match bit {
@@ -41,10 +30,16 @@ fn flip(image: &mut [u8], bit: usize) {
     }
 }
 
-fn flip_all(image: &mut [u8], out: &mut [u8], result: &mut [u8]) -> usize {
-    let mut at: usize = 0;
+fn flip_all(
+    image: &mut [u8],
+    bits: usize,
+    out: &mut [u8],
+    from: usize,
+    result: &mut [u8],
+) -> usize {
+    let mut at = from;
     let mut bit: usize = 0;
-    while bit < Sizes::SMALL * 8 {
+    while bit < bits {
         flip(image, bit);
         at = put_case(out, at, b"flip ", bit, image, result);
         flip(image, bit);
@@ -64,17 +59,17 @@ fn put_cut(out: &mut [u8], at: usize, image: &[u8], length: usize, result: &mut 
 fn cut_all(image: &[u8], out: &mut [u8], from: usize, result: &mut [u8]) -> usize {
     let mut at = from;
     let mut length: usize = 0;
-    while length < Sizes::SMALL {
+    while length < image.len() {
         at = put_cut(out, at, image, length, result);
         length += 1;
     }
     at
 }
 
-fn tally_all(image: &mut [u8], result: &mut [u8]) -> Tally {
+fn tally_all(image: &mut [u8], bits: usize, result: &mut [u8]) -> Tally {
     let mut tally = Tally::none();
     let mut bit: usize = 0;
-    while bit < Sizes::FULL * 8 {
+    while bit < bits {
         flip(image, bit);
         let next = tallied(tally, image, result);
         tally = next;
@@ -84,20 +79,38 @@ fn tally_all(image: &mut [u8], result: &mut [u8]) -> Tally {
     tally
 }
 
-fn run(small: &mut [u8], full: &mut [u8], out: &mut [u8], result: &mut [u8]) {
-    let flipped = flip_all(small, out, result);
-    let cut = cut_all(small, out, flipped, result);
-    let tally = tally_all(full, result);
-    let end = put_tally(out, cut, tally);
-    flush(out, end);
+// Every answer.
+fn tell_each(
+    image: &mut [u8],
+    bits: usize,
+    out: &mut [u8],
+    from: usize,
+    result: &mut [u8],
+) -> usize {
+    let flipped = flip_all(image, bits, out, from, result);
+    cut_all(image, out, flipped, result)
+}
+
+// All answers in one line.
+fn sum_up(image: &mut [u8], bits: usize, out: &mut [u8], from: usize, result: &mut [u8]) -> usize {
+    let tally = tally_all(image, bits, result);
+    put_tally(out, from, bits as u64, tally)
 }
 
 fn main() {
     let mut small = [0u8; 66];
+    let mut mixed = [0u8; 110];
     let mut full = [0u8; 1103];
+    let mut wide = [0u8; 1818];
     let mut out = io::large_buffer();
     let mut result = io::buffer();
     io::read_full(STDIN_FILENO, &mut small);
+    io::read_full(STDIN_FILENO, &mut mixed);
     io::read_full(STDIN_FILENO, &mut full);
-    run(&mut small, &mut full, &mut out, &mut result);
+    io::read_full(STDIN_FILENO, &mut wide);
+    let told = tell_each(&mut small, 528, &mut out, 0, &mut result);
+    let both = tell_each(&mut mixed, 880, &mut out, told, &mut result);
+    let summed = sum_up(&mut full, 8824, &mut out, both, &mut result);
+    let end = sum_up(&mut wide, 14544, &mut out, summed, &mut result);
+    flush(&mut out, end);
 }

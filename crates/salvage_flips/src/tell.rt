@@ -179,8 +179,9 @@ fn put_dropped(out: &mut [u8], at: usize, tally: Tally) -> usize {
     put_named(out, repeat, b" c ", tally.cut)
 }
 
-pub fn put_tally(out: &mut [u8], at: usize, tally: Tally) -> usize {
-    let marks = put_named(out, at, b"full 8824 flips, refused 14 ", tally.marks);
+pub fn put_tally(out: &mut [u8], at: usize, bits: u64, tally: Tally) -> usize {
+    let flips = put_named(out, at, b"full ", bits);
+    let marks = put_named(out, flips, b" flips, refused 14 ", tally.marks);
     let rules = put_named(out, marks, b" 16 ", tally.rules);
     let kept = put_named(out, rules, b", words k ", tally.kept);
     let dropped = put_dropped(out, kept, tally);

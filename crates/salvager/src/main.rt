@@ -58,7 +58,7 @@ fn salvage_all(image: &[u8], out: &mut [u8], text: &mut [u8]) {
     }
 }
 
-// No place is read past the first 4096 bytes: an image has 1103 at most, and whatever follows is ignored.
+// No place is read past the first 4096 bytes: an image has 1818 at most, and whatever follows is ignored.
 fn main() {
     let mut space = io::buffer();
     let mut out = io::buffer();

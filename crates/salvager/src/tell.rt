@@ -1,10 +1,10 @@
 // What is said to a person: a line for each place, or one for a refusal.
 use address::Address;
 use image::Place;
-use image::Version1;
 use model::Refusal;
 use report::put_byte;
 use report::put_bytes;
+use report::put_marked_address;
 use report::put_number;
 use salvage::Said;
 use salvage::Salvaged;
@@ -18,12 +18,18 @@ fn put_first(out: &mut [u8], at: usize, bytes: &[u8], n: usize) -> usize {
     at
 }
 
-// The text of an address, or its number where it has none.
+// An address that has no text, as in a script.
+fn put_outside(out: &mut [u8], at: usize, a: Address) -> usize {
+    let word = put_bytes(out, at, b"address");
+    put_marked_address(out, word, b' ', a)
+}
+
+// The text of an address.
 fn put_address(out: &mut [u8], at: usize, a: Address) -> usize {
     if !address::in_range(a) {
-        return put_number(out, at, a);
+        return put_outside(out, at, a);
     }
-    let mut text = [0u8; 32];
+    let mut text = [0u8; 48];
     let end = iptext::write(&mut text, 0, a);
     put_first(out, at, &text, end)
 }
@@ -67,11 +73,12 @@ fn put_line(out: &mut [u8], from: usize, image: &[u8], i: usize, said: Said) -> 
     if 64 <= i {
         return put_word(out, colon, word);
     }
-    let at = Version1::HEAD + i * Version1::PLACE;
-    if image.len() < at + Version1::PLACE {
+    let wide = image::is_wide(image);
+    let at = image::place_at(i, wide);
+    if image.len() < at + image::place_size(wide) {
         return put_word(out, colon, word);
     }
-    let held = put_place(out, colon, image::get_place(image, at));
+    let held = put_place(out, colon, image::get_place(image, at, wide));
     put_word(out, held, word)
 }
 
@@ -134,7 +141,7 @@ pub fn any_dropped(done: Salvaged) -> bool {
 
 fn put_reason(out: &mut [u8], at: usize, number: u64) -> usize {
     match number {
-        14 => put_bytes(out, at, b": not a saved list of version 1\n"),
+        14 => put_bytes(out, at, b": not a saved list of version 1 or 2\n"),
         16 => put_bytes(
             out,
             at,

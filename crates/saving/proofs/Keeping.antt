@@ -2,10 +2,9 @@
 -- Assumes nothing.
 use mathlib.Core.Path.{_≡_, refl, ap, sym, _∙_}
 use mathlib.Core.Bool.{Bool, true, false, not}
-use mathlib.Core.List.{List, [], _∷_, _++_, map}
-use Prim.Native.Nat.{ℕ, _≤_, _<_}
-use native.Mathlib.Omega.{arith}
-use lib.ListN.{length, take, drop}
+use mathlib.Core.List.{List, [], _∷_, _++_}
+use Prim.Native.Nat.{ℕ}
+use lib.ListN.{length, drop}
 use lib.Dec.{leb, ltb}
 use borrow.Author.Tests.{leb-true, leb-false, le-ltb, lt-ltb}
 use Rattle.model.specs.declared.Refusal.{Refusal}
@@ -15,17 +14,18 @@ use Rattle.address.specs.Here.{Addr, here}
 use Rattle.model.specs.Node as M
 use Rattle.model.specs.Sound.{sound}
 use Rattle.member.specs.declared.Member.{Member}
-use Rattle.member.specs.Views.{toMember, viewMembers, Held}
+use Rattle.member.specs.Views.{viewMembers, Held}
 use Rattle.node.specs.declared.Node.{Node}
 use Rattle.node.specs.Views.{viewNode, storedView}
 use Rattle.node.specs.Rows.{loaded-view}
 use Rattle.node.specs.Ends.{test-fails, test-passes}
-use Rattle.image.specs.Image.{Saved, image}
-use Rattle.image.specs.Versions.{v1}
+use Rattle.image.specs.Image.{Saved}
+use Rattle.image.specs.Forms.{imageOf}
+use Rattle.image.specs.Versions.{versions}
 use Rattle.image.specs.Views.{savedAs, writtenOf, rowOf}
 use Rattle.image.specs.declared.Written.{Written}
 use Rattle.image.specs.declared.Written.the-variants as written
-use Rattle.saving.specs.Saving.{Ending, saved, notSaved, Save, inOrder, savedList, saveTests, save}
+use Rattle.saving.specs.Saving.{saved, notSaved, Save, savedList, save}
 use Rattle.saving.specs.Views.{rowInOrder, endingOf, saveOf, Saves}
 use Rattle.saving.specs.declared.Saving.{Saving}
 use Rattle.saving.specs.declared.Saving.the-variants as saving
@@ -37,7 +37,7 @@ answer-of (written.Whole k) = saving.Whole k
 
 module _ (node : Node) (row : List ℕ) where
   abbrev bytes : List ℕ
-  bytes = image v1 (savedList here (M.loaded (storedView node)))
+  bytes = imageOf versions (savedList here (M.loaded (storedView node)))
 
   abbrev refuse : Refusal → Save
   refuse r = record { ends = notSaved r; row = row }
@@ -65,7 +65,7 @@ module _ (node : Node) (row : List ℕ) where
         (λ i. record { own = node .own; rows = r i; position = node .members .order .position }) ∙ ap (savedList here) (sym (loaded-view node))
 
     abbrev image-written : List ℕ
-    image-written = image v1 (savedAs (node .own) rows n (node .members .order .position))
+    image-written = imageOf versions (savedAs (node .own) rows n (node .members .order .position))
 
     passed : saveOf node row ≡ pick (ltb (length row) (length bytes)) (refuse NoRoom) whole
     unfolding save
@@ -80,9 +80,9 @@ module _ (node : Node) (row : List ℕ) where
       by-room : (u : Bool) → leb (length bytes) (length row) ≡ u → (w ≡ pick u (written.Whole (length bytes)) written.TooLong) × (row′ ≡ pick u (bytes ++ drop (length bytes) row) row)
       unfolding writtenOf rowOf
       by-room u q = (
-        a ∙ ap (λ (s : Saved Addr). pick (leb (length (image v1 s)) (length row)) (written.Whole (length (image v1 s))) written.TooLong) list-is
+        a ∙ ap (λ (s : Saved Addr). pick (leb (length (imageOf versions s)) (length row)) (written.Whole (length (imageOf versions s))) written.TooLong) list-is
             ∙ ap (λ (v : Bool). pick v (written.Whole (length bytes)) written.TooLong) q,
-        b ∙ ap (λ (s : Saved Addr). pick (leb (length (image v1 s)) (length row)) (image v1 s ++ drop (length (image v1 s)) row) row) list-is
+        b ∙ ap (λ (s : Saved Addr). pick (leb (length (imageOf versions s)) (length row)) (imageOf versions s ++ drop (length (imageOf versions s)) row) row) list-is
             ∙ ap (λ (v : Bool). pick v (bytes ++ drop (length bytes) row) row) q,
       )
 

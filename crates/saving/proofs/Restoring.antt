@@ -1,21 +1,18 @@
 -- How a restart ends: each refusal, and the node.
 -- Assumes nothing.
 use mathlib.Core.Path.{_≡_, refl, ap, sym, _∙_}
-use mathlib.Core.Bool.{Bool, true, false, not}
+use mathlib.Core.Bool.{Bool, true, false, not, _&&_}
 use mathlib.Core.List.{List, [], _∷_, map}
 use Prim.Native.Nat.{ℕ}
-use native.Mathlib.Omega.{arith}
 use lib.ListN.{length, take, length-map}
 use borrow.Author.Tests.{not-true, not-false}
-use Rattle.model.specs.declared.Refusal.{Refusal}
 use Rattle.model.specs.declared.Refusal.the-variants as refusal
-use Rattle.model.specs.declared.Reply.the-variants.{Done, Refused}
+use Rattle.model.specs.declared.Reply.the-variants.{Done}
 use Rattle.model.specs.declared.Settings.{Settings}
 use Rattle.model.specs.Rows.{pick, padTo}
 use Rattle.model.specs.Sound.{inRange}
 use Rattle.model.specs.Node as M
 use Rattle.model.specs.Members as list
-use Rattle.model.specs.Words as words
 use Rattle.model.specs.Calls.{Created, created, notCreated, firstOf}
 use Rattle.address.specs.Here.{Addr, here}
 use Rattle.member.specs.declared.Member.{Member}
@@ -28,15 +25,16 @@ use Rattle.disseminate.specs.Views.{packDisseminator, noNews}
 use Rattle.node.specs.declared.Node.{Node}
 use Rattle.node.specs.Views.{plainAnswer, packNode, createdOf}
 use Rattle.node.specs.Rows.{unstored-pack}
-use Rattle.image.specs.Image.{Entry, Image, addrIn, memberOf, ownIn, entriesIn, positionIn, savedOf, marked, sized, fields, inRule}
+use Rattle.image.specs.Image.{Entry, Image, addrIn, memberOf, ownIn, entriesIn, positionIn, savedOf, marked, sized, inRule}
+use Rattle.image.specs.Forms.{formIn, fieldsIn, inVersion}
 use Rattle.image.specs.Round.{members-addrs}
-use Rattle.image.specs.Versions.{v1}
+use Rattle.image.specs.Versions.{versions}
 use Rattle.image.specs.Views.{readMember, rowsOf, nothing, listOf, loadedOf}
 use Rattle.image.specs.declared.Loaded.{Loaded}
 use Rattle.image.specs.declared.Verdict.{Verdict}
 use Rattle.image.specs.declared.Verdict.the-variants as verdict
-use Rattle.saving.specs.Saving.{restoredNode, restoreTests, restore}
-use Rattle.saving.specs.Views.{membersOf, nodeOf, notRestored, restoredAs, setUpOf, restoredOf}
+use Rattle.saving.specs.Saving.{restoredNode, restore}
+use Rattle.saving.specs.Views.{nodeOf, notRestored, restoredAs, setUpOf, restoredOf}
 use Rattle.saving.specs.declared.Restored.{Restored}
 
 -- the settings' test
@@ -78,7 +76,7 @@ node-is i settings =
 
 module _ (bytes : List ℕ) (settings : Settings) (tick : ℕ) where
   abbrev i : Image Addr
-  i = fields v1 bytes
+  i = fieldsIn versions bytes
 
   abbrev refused-by : Bool → Bool → Bool → Bool → Created Addr
   refused-by u v w x =
@@ -115,4 +113,4 @@ module _ (bytes : List ℕ) (settings : Settings) (tick : ℕ) where
   restore-ends l e v q =
       (λ j. answered (sym q j) l)
       ∙ ap (λ (x : Loaded). answered (x .verdict) x) e
-      ∙ by-tests (marked v1 bytes) (sized v1 bytes) (inRule here (fields v1 bytes))
+      ∙ by-tests (marked (formIn versions bytes) bytes) (sized (formIn versions bytes) bytes) (inRule here (fieldsIn versions bytes) && inVersion versions bytes)

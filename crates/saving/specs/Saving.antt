@@ -1,6 +1,6 @@
 -- "Restart with the list we had": what is saved of a node, and the node that an image gives. For any type of address and its bytes.
 -- Assumes nothing.
-use mathlib.Core.Bool.{Bool, not}
+use mathlib.Core.Bool.{Bool, not, _&&_}
 use mathlib.Core.List.{List, [], _∷_, _++_, map}
 use Prim.Native.Nat.{ℕ}
 use lib.ListN.{length, drop}
@@ -13,7 +13,8 @@ use Rattle.model.specs.Members as list
 use Rattle.model.specs.Node.{Node, Stored, loaded, stored, restarted}
 use Rattle.model.specs.Sound.{inRange, sound}
 use Rattle.model.specs.Calls.{Created, created, notCreated, firstOf}
-use Rattle.image.specs.Image.{Form, Saved, savedOf, image, marked, sized, fields, inRule}
+use Rattle.image.specs.Image.{Saved, marked, sized, inRule}
+use Rattle.image.specs.Forms.{Forms, imageOf, formIn, fieldsIn, saidBy, inVersion}
 
 -- how many bytes were written, or why none was; and the row after it
 pub data Ending : Type 0 where
@@ -37,14 +38,14 @@ module _ {A : Type 0} (address : Address A) where
   savedList s = record { own = s .own; rows = inOrder (s .members); position = s .members .position }
 
   -- "for save 2, then 12"
-  abbrev pub saveTests : Form A → Stored A → ℕ → List (Bool × Refusal)
-  saveTests f s room = (not (sound address s), Unsound) ∷ (ltb room (length (image f (savedList (loaded s)))), NoRoom) ∷ []
+  abbrev pub saveTests : Forms A → Stored A → ℕ → List (Bool × Refusal)
+  saveTests forms s room = (not (sound address s), Unsound) ∷ (ltb room (length (imageOf forms (savedList (loaded s)))), NoRoom) ∷ []
 
   -- refused, nothing is written; places past the last stay as lent
-  unfoldable pub save : Form A → Stored A → List ℕ → Save
-  save f s row =
-      let bytes = image f (savedList (loaded s)) in
-      firstOf (saveTests f s (length row))
+  unfoldable pub save : Forms A → Stored A → List ℕ → Save
+  save forms s row =
+      let bytes = imageOf forms (savedList (loaded s)) in
+      firstOf (saveTests forms s (length row))
       (λ r. record { ends = notSaved r; row = row })
       (record { ends = saved (length bytes); row = bytes ++ drop (length bytes) row })
 
@@ -52,16 +53,16 @@ module _ {A : Type 0} (address : Address A) where
   restoredNode settings s = restarted settings (s .own) (s .rows) (s .position)
 
   -- "for restore, in this order, 14 .., 15 .., 16 .., then 1"
-  abbrev pub restoreTests : Form A → List ℕ → Settings → List (Bool × Refusal)
-  restoreTests f bytes settings =
-      (not (marked f bytes), WrongMark)
-      ∷ (not (sized f bytes), WrongLength)
-      ∷ (not (inRule address (fields f bytes)), OutOfRule)
+  abbrev pub restoreTests : Forms A → List ℕ → Settings → List (Bool × Refusal)
+  restoreTests forms bytes settings =
+      (not (marked (formIn forms bytes) bytes), WrongMark)
+      ∷ (not (sized (formIn forms bytes) bytes), WrongLength)
+      ∷ (not (inRule address (fieldsIn forms bytes) && inVersion forms bytes), OutOfRule)
       ∷ (not (inRange settings), Setting)
       ∷ []
 
-  unfoldable pub restore : Form A → List ℕ → Settings → Created A
-  restore f bytes settings =
-      firstOf (restoreTests f bytes settings)
+  unfoldable pub restore : Forms A → List ℕ → Settings → Created A
+  restore forms bytes settings =
+      firstOf (restoreTests forms bytes settings)
       notCreated
-      (created (stored address (restoredNode settings (savedOf (fields f bytes)))))
+      (created (stored address (restoredNode settings (saidBy forms bytes))))

@@ -11,7 +11,7 @@ use Rattle.model.specs.declared.Reply.the-variants.{Done, Refused}
 use Rattle.model.specs.Rows.{pick, padTo}
 use Rattle.model.specs.Lamps.{lampsOf}
 use Rattle.model.specs.Sound.{inRange}
-use Rattle.address.specs.Here.{Addr, here}
+use Rattle.address.specs.Here.{here}
 use Rattle.member.specs.declared.Member.{Member}
 use Rattle.member.specs.declared.Members.{Members}
 use Rattle.member.specs.Views.{toMember, fromMember, nobody, viewMembers}
@@ -23,7 +23,7 @@ use Rattle.node.specs.declared.Answer.{Answer}
 use Rattle.node.specs.Views.{storedView, packNode, plainAnswer, createdOf}
 use Rattle.node.specs.Views.{nobody as emptyNode}
 use Rattle.image.specs.declared.Loaded.{Loaded}
-use Rattle.image.specs.Versions.{v1}
+use Rattle.image.specs.Versions.{versions}
 use Rattle.saving.specs.Saving.{Ending, saved, notSaved, Save, inOrder, save, restore}
 use Rattle.saving.specs.declared.Saving.{Saving}
 use Rattle.saving.specs.declared.Saving.the-variants as saving
@@ -39,7 +39,7 @@ endingOf (notSaved r) = saving.Refused r
 
 -- saving a node into a lent row
 abbrev pub saveOf : Node → List ℕ → Save
-saveOf node row = save here v1 (storedView node) row
+saveOf node row = save here versions (storedView node) row
 
 pub record Saves (node : Node) (row : List ℕ) (r : Saving) (row′ : List ℕ) : Type 0 where
   pub answer : r ≡ endingOf (saveOf node row .ends)
@@ -72,4 +72,4 @@ setUpOf l settings tick = pick (inRange settings) (restoredAs (plainAnswer (Done
 
 -- restoring a node from bytes, with a fresh wait record
 unfoldable pub restoredOf : List ℕ → Settings → ℕ → Restored
-restoredOf bytes settings tick = record { answer = createdOf (restore here v1 bytes settings); wait = freshWait tick }
+restoredOf bytes settings tick = record { answer = createdOf (restore here versions bytes settings); wait = freshWait tick }

@@ -109,9 +109,10 @@ fn set_up(loaded: Loaded, settings: Settings, tick: u32) -> Restored
     if !node::settings::in_range(settings) {
         return refused(Refusal::Setting, tick);
     }
+    let own = loaded.own;
     let node = Node {
         settings,
-        own: loaded.own,
+        own,
         members: members_of(loaded),
         disseminator: Disseminator::new(),
         timers: Timers::new(),

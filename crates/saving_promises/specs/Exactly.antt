@@ -10,9 +10,9 @@ use Rattle.model.specs.Calls.{Created, notCreated, replyNumber}
 use Rattle.address.specs.Here.{Addr, here}
 use Rattle.node.specs.declared.Node.{Node}
 use Rattle.node.specs.Views.{storedView, createdOf}
-use Rattle.image.specs.Versions.{v1}
-use Rattle.saving.specs.Saving.{Save, saved, notSaved, saveTests, save, restoreTests, restore}
-use Rattle.saving.specs.Views.{endingOf, saveOf, Saves, restoredOf}
+use Rattle.image.specs.Versions.{versions}
+use Rattle.saving.specs.Saving.{Save, notSaved, saveTests, save, restoreTests, restore}
+use Rattle.saving.specs.Views.{endingOf, Saves, restoredOf}
 use Rattle.saving.specs.declared.Saving.{Saving}
 use Rattle.saving.specs.declared.Saving.the-variants as saving
 use Rattle.saving.specs.declared.Restored.{Restored}
@@ -24,18 +24,18 @@ savingNumber (saving.Whole n) = 0
 savingNumber (saving.Refused r) = numberOf r
 
 -- "for save 2, then 12"
-pub save-exactly : (node : Node) (row : List ℕ) (r : Saving) (row′ : List ℕ) → Saves node row r row′ → ByTests (savingNumber r) (saveTests here v1 (storedView node) (length row))
+pub save-exactly : (node : Node) (row : List ℕ) (r : Saving) (row′ : List ℕ) → Saves node row r row′ → ByTests (savingNumber r) (saveTests here versions (storedView node) (length row))
 unfolding save
 save-exactly node row r row′ met =
-    only-tests (λ (s : Save). savingNumber (endingOf (s .ends))) (λ x. record { ends = notSaved x; row = row }) (λ y. refl) _ refl (saveTests here v1 (storedView node) (length row))
+    only-tests (λ (s : Save). savingNumber (endingOf (s .ends))) (λ x. record { ends = notSaved x; row = row }) (λ y. refl) _ refl (saveTests here versions (storedView node) (length row))
     (ap savingNumber (met .answer))
 
 -- "for restore, in this order, 14 .., 15 .., 16 .., then 1"
 pub restore-exactly : (bytes : List ℕ) (settings : Settings) (tick : ℕ) (r : Restored) → r ≡ restoredOf bytes settings tick
-    → ByTests (replyNumber (r .answer .reply)) (restoreTests here v1 bytes settings)
+    → ByTests (replyNumber (r .answer .reply)) (restoreTests here versions bytes settings)
 unfolding restoredOf restore createdOf
 restore-exactly bytes settings tick r met =
-    only-tests (λ (c : Created Addr). replyNumber (createdOf c .reply)) notCreated (λ y. refl) _ refl (restoreTests here v1 bytes settings) (λ i. replyNumber (met i .answer .reply))
+    only-tests (λ (c : Created Addr). replyNumber (createdOf c .reply)) notCreated (λ y. refl) _ refl (restoreTests here versions bytes settings) (λ i. replyNumber (met i .answer .reply))
 
 -- one result for each input
 pub save-unique : (node : Node) (row : List ℕ) (r r′ : Saving) (o o′ : List ℕ) → Saves node row r o → Saves node row r′ o′ → (r ≡ r′) × (o ≡ o′)

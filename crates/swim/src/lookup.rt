@@ -75,8 +75,9 @@ pub fn member_at(node: Node, place: usize) -> Lookup
     }
     let m = members.member(place);
     let state = m.state;
+    let addr = m.addr;
     Lookup::Listed {
-        addr: m.addr,
+        addr,
         state,
         number: m.number,
     }

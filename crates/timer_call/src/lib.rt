@@ -100,11 +100,12 @@ fn remove_at(node: Node, place: usize) -> Ended
         return Ended::plain(Reply::Refused(Refusal::DeceasedFull), node);
     }
     let settings = node.settings;
+    let own = node.own;
     let alive = node.disseminator.alive;
     let deceased = pushed.heap;
     let said = Node {
         settings,
-        own: node.own,
+        own,
         members: left,
         disseminator: Disseminator { alive, deceased },
         timers: after,

@@ -51,9 +51,9 @@ module _ {A : Type 0} (address : Address A) where
       by (Suspected f s n) = refl
       by (Deceased f s n) = refl
 
--- "From 24 to 59."
-pub size-over-here : (f s : Addr) (n : ℕ) → (24 ≤ sizeOver (here .chars f) (here .chars s) n) × (sizeOver (here .chars f) (here .chars s) n ≤ 59)
+-- "From 18 to 111."
+pub size-over-here : (f s : Addr) (n : ℕ) → (18 ≤ sizeOver (here .chars f) (here .chars s) n) × (sizeOver (here .chars f) (here .chars s) n ≤ 111)
 size-over-here f s n =
     let a = here-chars f in
     let b = here-chars s in
-    (size-over-least 9 (here .chars f) (here .chars s) n (a .0) (b .0), size-over-most 21 (here .chars f) (here .chars s) n (a .1) (b .1))
+    (size-over-least 6 (here .chars f) (here .chars s) n (a .0) (b .0), size-over-most 47 (here .chars f) (here .chars s) n (a .1) (b .1))

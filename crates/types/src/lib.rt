@@ -244,7 +244,7 @@ impl Measured {
     // The length of any address's text.
     pub fn text_len(self, a: Address) -> u64
         requires { ⌜ Right self ⌝ }
-        ensures { λ r. ⌜ (r ≡ here .chars a) × (r ≤ 21) ⌝ }
+        ensures { λ r. ⌜ (r ≡ here .chars a) × (r ≤ 47) ⌝ }
     {
         if address::same(a, self.addr) {
             return self.chars;
@@ -255,15 +255,15 @@ impl Measured {
 
 // The bytes of an event on the wire, by the lengths of its two texts.
 pub fn size_over(from: u64, subject: u64, number: u64) -> u64
-    requires { ⌜ (from ≤ 21) × (subject ≤ 21) ⌝ }
-    ensures { λ r. ⌜ (r ≡ sizeOver from subject number) × (r ≤ 59) ⌝ }
+    requires { ⌜ (from ≤ 47) × (subject ≤ 47) ⌝ }
+    ensures { λ r. ⌜ (r ≡ sizeOver from subject number) × (r ≤ 111) ⌝ }
 {
     2 + (2 + from) + (2 + subject) + number_size(number)
 }
 
 // The bytes of a gossip on the wire; one of no event has none.
 pub fn size_of(g: Gossip) -> u64
-    ensures { λ r. ⌜ (r ≡ sizeOf here (toGossip g)) × (r ≤ 59) ⌝ }
+    ensures { λ r. ⌜ (r ≡ sizeOf here (toGossip g)) × (r ≤ 111) ⌝ }
 {
     let e = g.event;
     let p = parts_of(e);

@@ -9,6 +9,7 @@
 //   x ..                     the same of the deceased heap
 //   t PLACE ADDRESS NUMBER TICK LENGTH  a timer, and how many run
 use crate::made::alive_at;
+use crate::made::at;
 use crate::made::deceased_at;
 use crate::made::entry;
 use crate::made::lamps;
@@ -42,7 +43,7 @@ fn numbers_at(s: &[u8], from: usize) -> [u64; 8] {
 }
 
 fn changed_heap(node: Node, letter: u8, v: [u64; 8]) -> Node {
-    let held = entry(v[1], v[2], v[3], v[4], v[5], v[6]);
+    let held = entry(v[1], at(v[2]), at(v[3]), v[4], v[5], v[6]);
     if letter == b'a' {
         return alive_at(node, v[0] as usize, held, v[7] as usize);
     }
@@ -59,14 +60,14 @@ pub fn changed(node: Node, s: &[u8]) -> Node {
     let first = v[0] as usize;
     match letter {
         b's' => set_up(node, v[0], v[1]),
-        b'o' => owned(node, v[0]),
+        b'o' => owned(node, at(v[0])),
         b'n' => listed(node, first, v[1] as usize),
-        b'm' => member_at(node, first, member(v[1], v[2], v[3])),
-        b'p' => ordered(node, first, v[1]),
+        b'm' => member_at(node, first, member(at(v[1]), v[2], v[3])),
+        b'p' => ordered(node, first, at(v[1])),
         b'l' => lamps(node, lit(v[0], v[1], v[2])),
         b'a' => changed_heap(node, letter, v),
         b'x' => changed_heap(node, letter, v),
-        b't' => timer_at(node, first, timer(v[1], v[2], v[3]), v[4] as usize),
+        b't' => timer_at(node, first, timer(at(v[1]), v[2], v[3]), v[4] as usize),
         _ => node,
     }
 }

@@ -24,7 +24,7 @@ fn settings() -> Settings {
         ping_req_group_size: 1,
         send_constant: 3,
         max_selected: 6,
-        max_size: 1373,
+        max_size: 1169,
     }
 }
 
@@ -93,13 +93,21 @@ pub fn lit(alive: u64, pending: u64, suspected: u64) -> Lamps {
     }
 }
 
+// The addresses of this program are numbers of IPv4, and 0 is that of an unused place.
+pub fn at(n: u64) -> Address {
+    if n == 0 {
+        return address::blank();
+    }
+    address::from_number(n)
+}
+
 fn list() -> Members {
     let mut table = [Member::none(); 64];
-    table[0] = member(1, 0, 0);
-    table[1] = member(2, 0, 5);
+    table[0] = member(at(1), 0, 0);
+    table[1] = member(at(2), 0, 5);
     let mut row = [address::blank(); 64];
-    row[0] = 2;
-    row[1] = 1;
+    row[0] = at(2);
+    row[1] = at(1);
     Members {
         table,
         len: 2,
@@ -110,23 +118,23 @@ fn list() -> Members {
 
 fn living() -> Heap {
     let mut entries = [Entry::empty(); 128];
-    entries[0] = entry(1, 1, 2, 0, 3, 24);
-    entries[1] = entry(2, 1, 2, 127, 3, 26);
-    entries[2] = entry(3, 1, 2, 128, 4, 27);
+    entries[0] = entry(1, at(1), at(2), 0, 3, 24);
+    entries[1] = entry(2, at(1), at(2), 127, 3, 26);
+    entries[2] = entry(3, at(1), at(2), 128, 4, 27);
     Heap { entries, len: 3 }
 }
 
 fn dead() -> Heap {
     let mut entries = [Entry::empty(); 128];
-    entries[0] = entry(4, 1, 3, 0, 0, 24);
+    entries[0] = entry(4, at(1), at(3), 0, 0, 24);
     Heap { entries, len: 1 }
 }
 
 // Timers stand in starting order, which isn't checked: here they don't.
 fn running() -> Timers {
     let mut entries = [Timer::empty(); 16];
-    entries[0] = timer(2, 5, 100);
-    entries[1] = timer(9, 0, 50);
+    entries[0] = timer(at(2), 5, 100);
+    entries[1] = timer(at(9), 0, 50);
     Timers { entries, len: 2 }
 }
 
@@ -139,7 +147,7 @@ pub fn sound() -> Node {
     let timers = running();
     Node {
         settings,
-        own: 1,
+        own: at(1),
         members,
         disseminator,
         timers,

@@ -1,4 +1,5 @@
 // A node is handed to every call, and the refusals' numbers are written; 0 is no refusal.
+use crate::made::at;
 use libc::STDOUT_FILENO;
 use model::Reply;
 use node::Node;
@@ -27,7 +28,7 @@ fn tell_refusal(reply: Reply) {
 
 fn tell_add(node: Node) {
     let draws = [0u64; 1];
-    let answer = node::add_peer(node, 7, 0, &draws);
+    let answer = node::add_peer(node, at(7), 0, &draws);
     let reply = answer.reply;
     tell_refusal(reply);
 }
@@ -36,7 +37,7 @@ fn tell_message(node: Node) {
     let nothing = Gossip::none();
     let rows = [nothing; 64];
     let draws = [0u64; 1];
-    let action = Action::new_ack(2, Optional::Absent);
+    let action = Action::new_ack(at(2), Optional::Absent);
     let received = message::receive(node, action, rows, 0, &draws, 64, 65);
     let answer = received.answer;
     let reply = answer.reply;

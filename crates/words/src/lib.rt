@@ -1,7 +1,9 @@
 // Reads words: numbers, addresses, marks, each from its place in a line.
+mod addresses;
 mod pairs;
 mod places;
 
+pub use addresses::is_numbered;
 pub use pairs::BytesAt;
 pub use pairs::bytes_at;
 pub use places::AddressAt;

@@ -1,5 +1,7 @@
 // Words parted by one space. A word starts at a place; past the last word the place is the length plus one.
 use crate::Number;
+use crate::addresses::Named;
+use crate::addresses::address_word;
 use crate::number_of;
 use address::Address;
 use types::Optional;
@@ -60,12 +62,12 @@ pub fn number_at(s: &[u8], at: usize) -> NumberAt {
     }
 }
 
-// A number that ends at a colon.
-fn field_at(s: &[u8], at: usize) -> NumberAt {
+// A number that ends at a mark.
+pub fn field_at(s: &[u8], at: usize, mark: u8) -> NumberAt {
     if s.len() < at {
         return NumberAt::Malformed;
     }
-    let end = find(s, at, b':');
+    let end = find(s, at, mark);
     if end == s.len() {
         return NumberAt::Malformed;
     }
@@ -110,25 +112,33 @@ pub fn mark_at(s: &[u8], at: usize, mark: u8) -> MarkAt {
     MarkAt::Found(end + 1)
 }
 
-// The one place where what was read becomes an address: it is written as its number.
-fn address_of(read: NumberAt) -> AddressAt {
-    let NumberAt::Found { value, next } = read else {
+// The one place where a word becomes an address.
+fn address_of(word: &[u8], next: usize) -> AddressAt {
+    let Named::Said(address) = address_word(word) else {
         return AddressAt::Malformed;
     };
-    AddressAt::Found {
-        address: value,
-        next,
-    }
+    AddressAt::Found { address, next }
 }
 
 // The word that starts at a place, as an address.
 pub fn address_at(s: &[u8], at: usize) -> AddressAt {
-    address_of(number_at(s, at))
+    if s.len() < at {
+        return AddressAt::Malformed;
+    }
+    let end = find(s, at, b' ');
+    address_of(&s[at..end], end + 1)
 }
 
 // An address that ends at a colon.
 pub fn address_field_at(s: &[u8], at: usize) -> AddressAt {
-    address_of(field_at(s, at))
+    if s.len() < at {
+        return AddressAt::Malformed;
+    }
+    let end = find(s, at, b':');
+    if end == s.len() {
+        return AddressAt::Malformed;
+    }
+    address_of(&s[at..end], end + 1)
 }
 
 // An address, or `-` for none.

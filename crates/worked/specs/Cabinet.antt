@@ -7,7 +7,7 @@ use Rattle.model.specs.declared.State.{State}
 use Rattle.model.specs.declared.State.the-variants as state
 use Rattle.model.specs.declared.Settings.{Settings}
 use Rattle.model.specs.Answers.{Answer, done, refused}
-use Rattle.address.specs.IPv4.{ipv4}
+use Rattle.worked.specs.Numbered.{ipv4}
 use Rattle.model.specs.Words.{Event, Gossip, Entry, unused, sendsOf, Member}
 use Rattle.model.specs.Heap.{push}
 use Rattle.model.specs.Choose.{entryOf}
@@ -31,7 +31,7 @@ C = host 3
 abbrev pub says : (ℕ → ℕ → ℕ → Event ℕ) → ℕ → ℕ → Gossip ℕ
 says kind a n = record { event = kind own a n }
 
--- four waits of 10 ticks, a group of 1, send constant 3, 6 selected, 1373 bytes
+-- four waits of 10 ticks, a group of 1, send constant 3, 6 selected, 1169 bytes
 abbrev pub settings : Settings
 settings =
     record {
@@ -42,7 +42,7 @@ settings =
       «ping_req_group_size» = 1;
       «send_constant» = 3;
       «max_selected» = 6;
-      «max_size» = 1373;
+      «max_size» = 1169;
     }
 
 abbrev pub member : ℕ → State → ℕ → Member ℕ

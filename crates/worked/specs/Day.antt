@@ -7,7 +7,7 @@ use mathlib.Core.List.{List, [], _∷_}
 use mathlib.Core.Option.{none}
 use Prim.Native.Nat.{ℕ}
 use Rattle.model.specs.Bounds.{message-room, step-room, timer-room}
-use Rattle.address.specs.IPv4.{ipv4}
+use Rattle.worked.specs.Numbered.{ipv4}
 use Rattle.model.specs.Words.{Event, Joined, Deceased, Gossip, Ping, Ack, SendingPingReq, Declaring}
 use Rattle.model.specs.Node.{loaded, lists, numbered}
 use Rattle.model.specs.Answers as answers

@@ -19,7 +19,8 @@ use Rattle.model.specs.Bounds.{last-number, message-room, step-room}
 use Rattle.model.specs.Answers.{Answer, when}
 use Rattle.model.specs.Limit.{leastFrom, leastPower, limitOf}
 use Rattle.model.specs.Size.{varintFrom, varintLength, numberSize, sizeOver, sizeOf}
-use Rattle.address.specs.IPv4.{ipv4, address-end, digits, textLength}
+use Rattle.worked.specs.Numbered.{ipv4, address-end}
+use Rattle.address.specs.IPv4.{digits, textLength}
 use Rattle.model.specs.Words.{Nothing, Joined, Deceased, Gossip, Entry, nothing, unused, sendsOf, Member, SendingPing, SendingPingReq, Ping, PingReq, Ack, Message, partsOf, sameGossip, Recovered, Suspected}
 use Rattle.model.specs.Heap.{climbIn, climb, lower, downIn, down, push, sinkTop, removeTop, allBelow}
 use Rattle.model.specs.Choose.{termsOf, wasNoted, takeTop, tryHeap, tryAlive, tryDeceased, over, rounds, choose, orElse, death}
@@ -222,10 +223,10 @@ wrongs =
     seen (λ p es. look.each look.ofEntry (p es (sent 1 y))) at (sent 2 x ∷ []) yet-at (sent 0 x ∷ sent 2 x ∷ sent 2 z ∷ []))
     ∷ (wrong.lastStopsAtAnEqual is-not removeTop unused sendsOf
     seen (λ p es. look.each look.ofEntry (p es)) at (threeTold .disseminator .alive) yet-at (sent 0 x ∷ sent 1 y ∷ sent 2 z ∷ []))
-    ∷ (wrong.sharesOfTheWhole is-not termsOf seen (λ p n. look.ofTerms (p n 1373 3)) at 6 yet-at 0)
+    ∷ (wrong.sharesOfTheWhole is-not termsOf seen (λ p n. look.ofTerms (p n 1169 3)) at 6 yet-at 0)
     ∷ (wrong.sizeNotTested is-not choose ipv4
-    seen (λ p (s : Node ℕ). look.itself (length (p (termsOf 64 1373 1) (s .disseminator .alive) (s .disseminator .deceased) .chosen))) at manyTold yet-at threeTold)
-    ∷ (wrong.lastOnesDropped is-not choose ipv4 seen (λ p n. look.ofChoice (p (termsOf n 1373 3) (threeTold .disseminator .alive) [])) at 2 yet-at 6)
+    seen (λ p (s : Node ℕ). look.itself (length (p (termsOf 64 1169 1) (s .disseminator .alive) (s .disseminator .deceased) .chosen))) at manyTold yet-at threeTold)
+    ∷ (wrong.lastOnesDropped is-not choose ipv4 seen (λ p n. look.ofChoice (p (termsOf n 1169 3) (threeTold .disseminator .alive) [])) at 2 yet-at 6)
     ∷ (wrong.greatestDeath is-not death ipv4 seen (λ p (s : Node ℕ). look.ofOption (p B (s .disseminator .deceased))) at buriedTwice yet-at buried)
     -- list and order
     ∷ (wrong.updateAdds is-not update eqb seen (λ p a. look.ofMembers (p (member a state.Alive 1) (withB state.Alive 0 .members))) at C yet-at B)

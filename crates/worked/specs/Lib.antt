@@ -1,3 +1,4 @@
+pub mod Numbered
 pub mod Cabinet
 pub mod Table
 pub mod Worked

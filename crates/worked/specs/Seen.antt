@@ -20,7 +20,7 @@ use Rattle.model.specs.declared.Reply.the-variants.{Done, Already, NotDue, Refu
 use Rattle.model.specs.Rows.{one}
 use Rattle.laws.specs.Bools.{and-split}
 use Rattle.model.specs.Answers.{Answer, done, refused, numberOf}
-use Rattle.address.specs.IPv4.{ipv4}
+use Rattle.worked.specs.Numbered.{ipv4}
 use Rattle.model.specs.Words.{Gossip, Entry, Member, Timer, Wait, WaitState, SendingPing, WaitingForPingAck, SendingPingReq, WaitingForPingReqAck, Declaring, Action, Ping, PingReq, Ack, Message, partsOf}
 use Rattle.model.specs.Choose.{Terms, Choice}
 use Rattle.model.specs.Members.{Members, Picked}

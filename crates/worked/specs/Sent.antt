@@ -11,7 +11,8 @@ use Rattle.model.specs.Rows.{swap}
 use Rattle.model.specs.Answers.{when}
 use Rattle.model.specs.Size.{varintFrom, varintLength, numberSize, sizeOver, sizeOf}
 use Rattle.model.specs.Limit.{leastFrom, leastPower, limitOf}
-use Rattle.address.specs.IPv4.{ipv4, digits, textLength}
+use Rattle.worked.specs.Numbered.{ipv4}
+use Rattle.address.specs.IPv4.{digits, textLength}
 use Rattle.model.specs.Words.{Gossip, Action, Joined, Suspected, Deceased, Ping, PingReq, Ack, Message, SendingPing, WaitingForPingAck, SendingPingReq, WaitingForPingReqAck, Declaring, partsOf, sameGossip}
 use Rattle.model.specs.Heap.{climbIn, climb, lower, downIn, down, push, sinkTop, removeTop}
 use Rattle.model.specs.Choose.{termsOf, wasNoted, takeTop, tryHeap, tryAlive, tryDeceased, over, rounds, choose, death}
@@ -37,7 +38,7 @@ sends action gs = ofGiven (λ e. e .messages) (handle ipv4 action gs (withB stat
 
 -- waits that differ
 abbrev waits : Settings
-waits = record { «ping_interval» = 1; «ping_timeout» = 2; «ping_req_timeout» = 3; «suspect_timeout» = 4; «ping_req_group_size» = 1; «send_constant» = 3; «max_selected» = 6; «max_size» = 1373 }
+waits = record { «ping_interval» = 1; «ping_timeout» = 2; «ping_req_timeout» = 3; «suspect_timeout» = 4; «ping_req_group_size» = 1; «send_constant» = 3; «max_selected» = 6; «max_size» = 1169 }
 
 -- one past the last address
 abbrev past : ℕ

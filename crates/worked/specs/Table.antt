@@ -4,14 +4,15 @@ use mathlib.Core.Path.{_≡_}
 use mathlib.Core.Bool.{false}
 use mathlib.Core.List.{List, [], _∷_, map}
 use mathlib.Core.Option.{none, some}
-use Prim.Native.Nat.{ℕ}
+use Prim.Native.Nat.{ℕ, _-_, _^_}
 use lib.ListN.{length, getD}
 use lib.Dec.{eqb}
 use Rattle.model.specs.declared.State.the-variants as state
 use Rattle.model.specs.Answers.{Answer, done}
 use Rattle.model.specs.Limit.{limitOf}
 use Rattle.model.specs.Size.{sizeOf}
-use Rattle.address.specs.IPv4.{ipv4}
+use Rattle.address.specs.Here.{Addr, here}
+use Rattle.worked.specs.Numbered.{ipv4}
 use Rattle.model.specs.Words.{Joined, Suspected, Deceased, Gossip, Entry}
 use Rattle.model.specs.Choose.{choose, termsOf}
 use Rattle.model.specs.Members as list
@@ -39,6 +40,13 @@ c = host 13
 
 abbrev d : ℕ
 d = host 14
+
+-- the shortest and the longest text of IPv6
+abbrev shortest : Addr
+shortest = record { family = 6; port = 0; high = 0; low = 0 }
+
+abbrev furthest : Addr
+furthest = record { family = 6; port = 65535; high = 2 ^ 64 - 1; low = 2 ^ 64 - 1 }
 
 -- x, y, z of 01's tie, pushed in that order
 abbrev x : Gossip ℕ
@@ -69,6 +77,9 @@ table =
     ∷ (sizeOf ipv4 (says Joined own 0) is 32)
     ∷ (sizeOf ipv4 (says Joined own 127) is 34)
     ∷ (sizeOf ipv4 (says Joined own 128) is 35)
+    -- of IPv6 the shortest and the longest: [::]:0 twice at number 0, and [ffff:..:ffff]:65535 twice at 2^64 − 1
+    ∷ (sizeOf here (record { event = Joined shortest shortest 0 }) is 18)
+    ∷ (sizeOf here (record { event = Joined furthest furthest (2 ^ 64 - 1) }) is 111)
     -- "shuffle a,b,c with draws 0,0: b,c,a"
     ∷ (list.shuffle 0 (a ∷ b ∷ c ∷ []) (0 ∷ 0 ∷ []) is done (b ∷ c ∷ a ∷ []) [])
     -- "order a,b,c,d at 2, remove a: position 2, now d"
@@ -77,10 +88,10 @@ table =
     -- "order B,C,own at 1, pick 2 with draws 2,0: C, C"; and the trap "forgetting that a pick may give one peer twice"
     ∷ (ofGiven (λ p. p .picks) (list.pickFrom eqb 0 own none 2 (order (B ∷ C ∷ own ∷ []) 1) (2 ∷ 0 ∷ [])) is some (C ∷ C ∷ []))
     -- "tie: push x,y,z, all alive; limit 3, max_selected 6, no deaths held, all fit: sent x,z,y"; and the trap "first in, first out"
-    ∷ (choose ipv4 (termsOf 6 1373 3) (heapOf (x ∷ y ∷ z ∷ []) []) [] .chosen is (x ∷ z ∷ y ∷ []))
+    ∷ (choose ipv4 (termsOf 6 1169 3) (heapOf (x ∷ y ∷ z ∷ []) []) [] .chosen is (x ∷ z ∷ y ∷ []))
     -- "One heap may pass its share while the other is short": no deaths are held, and three of the living go out at a share of 1
-    ∷ (termsOf 2 1373 3 .alive-share is 1)
-    ∷ (choose ipv4 (termsOf 2 1373 3) (heapOf (x ∷ y ∷ z ∷ []) []) [] .from-alive is 3)
+    ∷ (termsOf 2 1169 3 .alive-share is 1)
+    ∷ (choose ipv4 (termsOf 2 1169 3) (heapOf (x ∷ y ∷ z ∷ []) []) [] .from-alive is 3)
     -- "B Pending 4, Suspected 4: nothing; 5: Suspected 5"
     ∷ (ruleOf Suspected B 4 (withB state.Pending 4) [] is done (record { node = withB state.Pending 4; said = [] }) [])
     ∷ (ofGiven (λ o. numbered ipv4 B (o .node)) (ruleOf Suspected B 5 (withB state.Pending 4) []) is some 5)

@@ -7,6 +7,8 @@ use Rattle.model.specs.Rows.{swap}
 use Rattle.model.specs.Limit.{leastFrom, leastPower, limitOf}
 use Rattle.model.specs.Size.{varintFrom, varintLength, numberSize, sizeOver, sizeOf}
 use Rattle.address.specs.IPv4.{digits, textLength}
+use Rattle.address.specs.Families.{charsOf}
+use Rattle.ip6.specs.Text6 as six
 use Rattle.model.specs.Words.{partsOf, sameGossip}
 use Rattle.model.specs.Heap.{climbIn, climb, lower, downIn, down, push, sinkTop, removeTop}
 use Rattle.model.specs.Choose.{termsOf, wasNoted, takeTop, tryHeap, tryAlive, tryDeceased, over, rounds, choose}
@@ -22,7 +24,7 @@ pub data All : List Case → Type 1 where
 
 infixr 10 _and_
 pub worked : All table
-unfolding when swap leastFrom leastPower limitOf varintFrom varintLength numberSize sizeOver sizeOf digits textLength partsOf sameGossip climbIn climb lower downIn down push sinkTop removeTop termsOf wasNoted takeTop tryHeap tryAlive tryDeceased over rounds choose shuffle advance added add remove update seek pickFrom quiet pushed emit change leave spread believed suspectedOther suspected deceased listAfter newsOf act item pinged sendPing
+unfolding when swap leastFrom leastPower limitOf varintFrom varintLength numberSize sizeOver sizeOf digits textLength charsOf six.digit six.numeralIn six.leading six.longest six.place six.behind six.joined six.without six.plain six.mapped six.dotted six.ip6 six.text6 partsOf sameGossip climbIn climb lower downIn down push sinkTop removeTop termsOf wasNoted takeTop tryHeap tryAlive tryDeceased over rounds choose shuffle advance added add remove update seek pickFrom quiet pushed emit change leave spread believed suspectedOther suspected deceased listAfter newsOf act item pinged sendPing
 worked =
-    refl and refl and refl and refl and refl and refl and refl and refl and refl and refl and refl and refl
+    refl and refl and refl and refl and refl and refl and refl and refl and refl and refl and refl and refl and refl and refl
     and refl and refl and refl and refl and refl and refl and refl and refl and refl and refl and refl and refl and refl and refl and end

@@ -19,7 +19,7 @@ use Rattle.model.specs.declared.Reply.the-variants.{NotDue}
 use Rattle.model.specs.Rows.{pick, every, has, swap}
 use Rattle.model.specs.Bounds.{list-places, heap-places, timer-places, message-records, most-sends, Room, message-room, timer-room}
 use Rattle.model.specs.Answers.{Answer, done, refused, andThen, when, draw}
-use Rattle.address.specs.IPv4.{ipv4}
+use Rattle.worked.specs.Numbered.{ipv4}
 use Rattle.model.specs.Words.{Event, Nothing, nothing, Joined, Recovered, Suspected, Deceased, Gossip, Entry, unused, sendsOf, Member, Wait, WaitState, SendingPing, Declaring, Action, Ping, PingReq, Ack, Message, partsOf}
 use Rattle.model.specs.Heap.{parent, sink}
 use Rattle.model.specs.Choose.{Terms, Choice, choose, deathIn}
@@ -201,12 +201,12 @@ onlyTheSum own table order n position lamps =
     && every (λ a. eqb a 0) (drop n order)
     && eqb (lamps .alive + lamps .pending + lamps .suspected) (l .alive + l .pending + l .suspected)
 
--- any size from 24 to 59 passes
+-- any size from 18 to 111 passes
 abbrev pub anySizeInBounds : Kind → Entry ℕ → Bool
 anySizeInBounds k e =
     ofKind k (partsOf ipv4 (e .gossip .event) .kind)
-    && leb 24 (e .size)
-    && leb (e .size) 59
+    && leb 18 (e .size)
+    && leb (e .size) 111
     && leb (e .sends) most-sends
     && validGossip ipv4 (e .gossip)
 

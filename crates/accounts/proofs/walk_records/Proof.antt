@@ -2,7 +2,7 @@
 -- Assumes nothing.
 use mathlib.Core.Path.{_≡_, refl, ap, sym, _∙_}
 use mathlib.Core.List.{List}
-use Prim.Native.Nat.{ℕ, _+_, _-_, _≤_, _<_}
+use Prim.Native.Nat.{ℕ, _+_, _-_, _*_, _^_, _≤_, _<_}
 use native.Mathlib.Omega.{arith}
 use lib.ListN.{length, drop}
 use mir.Val.{Fits}
@@ -46,6 +46,13 @@ start r = r .before .before .before .before .before .before .before .before .bef
 -- a lent row's length is a number of the machine
 fits : (s : tie.Start Inv-loop μ-loop) → Fits w64 (length (s .args .draws .now))
 fits s = search needs
+
+-- and so is its size
+sized : (s : tie.Start Inv-loop μ-loop) → length (s .args .draws .now) * 8 < 2 ^ 63
+sized s = search needs
+
+scaled : tie.Need-mul-run-rule Inv-loop μ-loop
+scaled c = record { fits = omega (arith, c .before .before .before .before .loop .inv .1 .within, sized (c .before .before .before .before .before .before .before)) }
 
 within : (r : tie.After-run-rule Inv-loop μ-loop) (more : ℕ) → r .run-rule .result .drew ≡ Used more → r .before .before .before .before .before .before .loop .used + more ≤ length (start r .args .draws .now)
 within r more d =
@@ -113,7 +120,7 @@ walk-records-spec =
     (λ c. search needs)
     (λ c κs. search needs)
     (λ c κs. search needs)
-    (λ c. search needs)
+    scaled
     (λ c. search needs)
     (λ c. search needs)
     (λ c. search needs)

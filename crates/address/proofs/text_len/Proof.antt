@@ -1,19 +1,10 @@
--- `address::text_len` meets its contract: each of the five numbers has the digits that the rule counts.
+-- `address::text_len` meets its contract: by family.
 -- Assumes nothing.
-use mathlib.Core.Path.{_≡_, _∙_, ap}
-use Prim.Native.Nat.{ℕ, _≤_}
-use native.Mathlib.Omega.{arith}
 use borrow.Author.Needs.{needs}
-use Rattle.address.specs.IPv4.{textLength}
-use Rattle.address.specs.TextLaws.{text-length}
+use Rattle.address.specs.Families.{chars-six, chars-other, chars-of-bounds}
 use Rattle.address.proofs.text_len.Statement.{statement}
 use Rattle.address.proofs.text_len.Tie as tie
-
-returns : tie.Need-returns
-unfolding textLength
-returns c =
-    let t = text-length (c .before .before .before .before .before .args .a) in
-    (search needs, omega (arith, t), omega (arith, t))
+use native.Mathlib.Omega.{arith}
 
 pub text-len-spec : {M : Type 1} → statement M
 text-len-spec =
@@ -21,12 +12,7 @@ text-len-spec =
     (tie.spec
     (λ c κs. search needs)
     (λ c κs. search needs)
+    (λ c. (chars-six _ _ _ (search needs) (search needs) (c .text-len6 .ensures .0), search needs, search needs))
     (λ c κs. search needs)
     (λ c κs. search needs)
-    (λ c κs. search needs)
-    (λ c. search needs)
-    (λ c. search needs)
-    (λ c. search needs)
-    (λ c. search needs)
-    (λ c. search needs)
-    returns)
+    (λ c. (chars-other _ _ _ (c .before .before .if1 .left) (search needs) (c .text-len4 .ensures .0), search needs, omega (arith, c .text-len4 .ensures .2))))

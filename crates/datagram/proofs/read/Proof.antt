@@ -100,8 +100,8 @@ module _ {M : Type 1} (𝓤 : URA M) (H : Heap 𝓤) (A : Atoms 𝓤) (W : Given
   in-row : Part Go W (cell (dval d)) fullShare (tyArray T′.mir 65) l 8 (rval (d .row)) (λ u. cell (vstruct (setV (fields d) 1 u)))
   in-row = field-part 𝓤 H A W (nameOf D′.mir) (tysOf D′.mir) l (fields d) 1 (tyArray T′.mir 65) 8 refl
 
-  in-answer : Part Go W (cell (dval d)) fullShare R′.mir l 2088 (aval d) (λ u. cell (vstruct (setV (fields d) 2 u)))
-  in-answer = field-part 𝓤 H A W (nameOf D′.mir) (tysOf D′.mir) l (fields d) 2 R′.mir 2088 refl
+  in-answer : Part Go W (cell (dval d)) fullShare R′.mir l 4168 (aval d) (λ u. cell (vstruct (setV (fields d) 2 u)))
+  in-answer = field-part 𝓤 H A W (nameOf D′.mir) (tysOf D′.mir) l (fields d) 2 R′.mir 4168 refl
 
 -- the contract of the call by value
 module _ {M : Type 1} (𝓤 : URA M) (H : Heap 𝓤) (A : Atoms 𝓤) (mem : Memory → SProp 𝓤) (run : Routine → Fun 𝓤) where
@@ -208,7 +208,7 @@ module _ {M : Type 1} (𝓤 : URA M) (H : Heap 𝓤) (A : Atoms 𝓤) (W : Given
             wrote ! tt 65 κ₁ q₁ bg og γg ys (d .row) (d .count) u (λ ws ew l r isu.
             -- [κ₁'s token; the last list; κ₀'s; _7 at 3; …]
             land ! (from ! (stop !)) (init ! 7 refl (nothing-lawful 𝓤 H A W .typed r _ isu .0)) $
-            assigns ! (of-opd ! (load ! (from ! (fld ! {τ = R′.mir} {d = 2088} refl (stop !))) (look-in ! 11 (in-answer 𝓤 H A W l₃ d)))) (from ! (stop !)) (init ! 17 refl (EL.lawful R.the-type R′.the-laws 𝓤 H A W tt .typed (d .answer) _ (answer-is d ud isd) .0)) $
+            assigns ! (of-opd ! (load ! (from ! (fld ! {τ = R′.mir} {d = 4168} refl (stop !))) (look-in ! 11 (in-answer 𝓤 H A W l₃ d)))) (from ! (stop !)) (init ! 17 refl (EL.lawful R.the-type R′.the-laws 𝓤 H A W tt .typed (d .answer) _ (answer-is d ud isd) .0)) $
             returns ! (look ! 17 refl) $ forget ! 3 refl $ forget ! 5 refl $ forget ! 7 refl $ forget ! 9 refl $ forget ! 11 refl $ forget ! 13 refl $ forget ! 15 refl $ forget ! 17 refl $
             move ! (17 ∷ 18 ∷ []) $ free1 ! $ move ! (15 ∷ 16 ∷ []) $ free1 ! $ move ! (13 ∷ 14 ∷ []) $ free1 ! $ move ! (11 ∷ 12 ∷ []) $ free1 ! $ move ! (9 ∷ 10 ∷ []) $ free1 ! $ move ! (7 ∷ 8 ∷ []) $ free1 ! $ move ! (5 ∷ 6 ∷ []) $ free1 ! $ move ! (3 ∷ 4 ∷ []) $ free1 ! $ free0 ! $
             keep ! (2 ∷ 0 ∷ 1 ∷ []) $ by ! (exits d (answer-is d ud isd) ws l ed ew)))

@@ -1,10 +1,10 @@
 -- `image::opening` meets its contract: mark, head, length.
 -- Assumes nothing.
-use mathlib.Core.Path.{sym, _∙_}
 use denote.Ref.{now}
+use mathlib.Core.Path.{sym, _∙_}
+use borrow.Author.Tests.{not-true, not-false}
 use Rattle.image.proofs.Loading.{opening-mark, opening-head, opening-size, opening-good}
 use borrow.Author.Needs.{needs}
-use borrow.Author.Tests.{not-true, not-false}
 use Rattle.image.proofs.opening.Statement.{statement}
 use Rattle.image.proofs.opening.Tie as tie
 
@@ -13,18 +13,17 @@ returns c = opening-mark (now (c .before .before .before .args .bytes)) (sym (c 
 
 returns-2 : tie.Need-returns-2
 returns-2 c =
-    let e = c .before in
-    opening-head (now (e .before .before .before .args .bytes)) (sym (e .before .is-marked .ensures) ∙ not-false _ (e .if1 .left)) (search needs)
+    opening-head (now (c .before .before .before .before .before .before .args .bytes)) _ (c .before .before .is-wide .ensures) _ (sym (c .before .before .before .before .is-marked .ensures) ∙ not-false _ (c .before .before .before .if1 .left)) (c .before .head-size .ensures .0) (search needs)
 
 returns-3 : tie.Need-returns-3
 returns-3 c =
-    let e = c .before .before .before in
-    opening-size (now (e .before .before .before .args .bytes)) (c .before .get-number .result) (sym (e .before .is-marked .ensures) ∙ not-false _ (e .if1 .left)) (search needs) (c .before .get-number .ensures .0) (search needs)
+    opening-size (now (c .before .before .before .before .before .before .before .before .before .args .bytes)) _ (c .before .before .before .before .before .is-wide .ensures) _ _ _ (sym (c .before .before .before .before .before .before .before .is-marked .ensures) ∙ not-false _ (c .before .before .before .before .before .before .if1 .left)) (c .before .before .before .before .head-size .ensures .0) (search needs)
+    (c .before .before .count-in .ensures .0) (c .before .place-at .ensures .0) (search needs)
 
 returns-4 : tie.Need-returns-4
 returns-4 c =
-    let e = c .before .before .before in
-    opening-good (now (e .before .before .before .args .bytes)) (c .before .get-number .result) (sym (e .before .is-marked .ensures) ∙ not-false _ (e .if1 .left)) (search needs) (c .before .get-number .ensures .0) (search needs)
+    opening-good (now (c .before .before .before .before .before .before .before .before .before .args .bytes)) _ (c .before .before .before .before .before .is-wide .ensures) _ _ _ (sym (c .before .before .before .before .before .before .before .is-marked .ensures) ∙ not-false _ (c .before .before .before .before .before .before .if1 .left)) (c .before .before .before .before .head-size .ensures .0) (search needs)
+    (c .before .before .count-in .ensures .0) (c .before .place-at .ensures .0) (search needs)
 
 pub opening-spec : {M : Type 1} → statement M
 opening-spec =
@@ -32,10 +31,11 @@ opening-spec =
     (tie.spec
     (λ c κs. search needs)
     returns
+    (λ c κs. search needs)
+    (λ c κs. search needs)
     returns-2
     (λ c κs. search needs)
-    (λ c. search needs)
-    (λ c. search needs)
+    (λ c κs. search needs)
     (λ c. search needs)
     returns-3
     returns-4)

@@ -1,49 +1,46 @@
 -- `image::write` meets its contract: head, places, position.
 -- Assumes nothing.
 use denote.Ref.{now}
-use mathlib.Core.Path.{_≡_, _∙_}
 use Rattle.image.proofs.Laying.{too-long, room-head, room-rows, room-position, written}
-use native.Mathlib.Omega.{arith}
 use borrow.Author.Needs.{needs}
 use Rattle.image.proofs.write.Statement.{statement}
 use Rattle.image.proofs.write.Tie as tie
-use Rattle.image.proofs.write.Reads as reads
-use Rattle.image.proofs.write.Lts as lts
-use Rattle.image.proofs.put_head.Reads as put-head-reads
-use Rattle.image.proofs.put_members.Reads as put-members-reads
-use Rattle.numbers.proofs.put_number.Reads as put-number-reads
 
 returns : tie.Need-returns
 returns c =
-    let a = c .before .before .args in
-    too-long (a .own) (a .rows) (a .n) (a .position) (search needs) (now (a .out)) (search needs)
+    let a = c .before .before .before .before .args in
+    too-long _ (a .own) (a .rows) (a .n) (a .position) (search needs) (c .before .before .needs-wide .ensures) _ (c .before .place-at .ensures .0) (now (a .out)) (search needs)
 
 put-head-requires : tie.Need-put-head-requires
 put-head-requires c κs =
-    let a = c .before .before .before .args in
-    room-head (a .own) (a .rows) (a .n) (a .position) (search needs) (search needs)
+    let a = c .before .before .before .before .before .args in
+    room-head _ (a .own) (a .rows) (a .n) (a .position) (search needs) (c .before .before .before .needs-wide .ensures) _ (c .before .before .place-at .ensures .0) (search needs)
 
 put-members-requires : tie.Need-put-members-requires
 put-members-requires c κs =
-    let a = c .before .before .before .before .before .before .before .args in
-    (search needs, room-rows (a .own) (a .rows) (a .n) (a .position) (search needs) (search needs) (c .before .before .before .put-head .ensures))
+    let a = c .before .before .before .before .before .before .before .before .before .args in (
+      search needs,
+      room-rows _ (a .own) (a .rows) (a .n) (a .position) (search needs) (c .before .before .before .before .before .before .before .needs-wide .ensures) _ (c .before .before .before .before .before .before .place-at .ensures .0) (search needs) (c .before .before .before .put-head .ensures),
+    )
 
 put-number-requires : tie.Need-put-number-requires
 put-number-requires c κs =
-    let a = c .before .before .before .before .before .before .before .before .before .before .before .args in
-    room-position (a .own) (a .rows) (a .n) (a .position) (search needs) (search needs) (c .before .before .before .before .before .before .before .put-head .ensures) (c .before .before .before .put-members .ensures)
+    let a = c .before .before .before .before .before .before .before .before .before .before .before .before .before .args in
+    room-position _ (a .own) (a .rows) (a .n) (a .position) (search needs) (c .before .before .before .before .before .before .before .before .before .before .before .needs-wide .ensures) _ (c .before .before .before .before .before .before .before .before .before .before .place-at .ensures .0) (search needs) (c .before .before .before .before .before .before .before .put-head .ensures)
+    (c .before .before .before .put-members .ensures)
 
 returns-2 : tie.Need-returns-2
 returns-2 c =
-    let a = c .before .before .before .before .before .before .before .before .before .before .before .before .before .before .args in
-    written (a .own) (a .rows) (a .n) (a .position) (search needs) (search needs) (c .before .before .before .before .before .before .before .before .before .before .put-head .ensures) (c .before .before .before .before .before .before .put-members .ensures) (c .before .before .put-number .ensures)
+    let a = c .before .before .before .before .before .before .before .before .before .before .before .before .before .before .before .before .args in
+    written _ (a .own) (a .rows) (a .n) (a .position) (search needs) (c .before .before .before .before .before .before .before .before .before .before .before .before .before .before .needs-wide .ensures) _ (c .before .before .before .before .before .before .before .before .before .before .before .before .before .place-at .ensures .0) (search needs) (c .before .before .before .before .before .before .before .before .before .before .put-head .ensures)
+    (c .before .before .before .before .before .before .put-members .ensures) (c .before .before .put-number .ensures)
 
 pub write-spec : {M : Type 1} → statement M
 write-spec =
     tie.close
     (tie.spec
-    (λ c. search needs)
-    (λ c. search needs)
+    (λ c κs. search needs)
+    (λ c κs. search needs)
     (λ c. search needs)
     returns
     put-head-requires

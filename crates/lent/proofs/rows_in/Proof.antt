@@ -15,7 +15,7 @@ use Rattle.lent.proofs.rows_in.Statement as stated
 use Rattle.lent.proofs.rows_in.Code as code
 
 -- the offset of a place of the array fits
-offs : (i : ℕ) → i < 64 → i * 32 < 2 ^ 64
+offs : (i : ℕ) → i < 64 → i * 64 < 2 ^ 64
 offs i l = omega (arith, l)
 
 pub rows-in-spec : {M : Type 1} → stated.statement M

@@ -15,7 +15,7 @@ use Rattle.lent.proofs.write_1.Statement as stated
 use Rattle.lent.proofs.write_1.Code as code
 
 -- the offset of a place of the array fits
-offs : (i : ℕ) → i < 1 → i * 32 < 2 ^ 64
+offs : (i : ℕ) → i < 1 → i * 64 < 2 ^ 64
 offs i l = omega (arith, l)
 
 pub write-1-spec : {M : Type 1} → stated.statement M

@@ -9,13 +9,13 @@ use Rattle.order.proofs.find_place.Statement.{statement}
 use Rattle.order.proofs.find_place.Tie as tie
 
 abbrev Inv-loop : tie.InvT-loop
-Inv-loop row n a i₀ i = Sought (here .same a) row n i
+Inv-loop n a row i₀ i = Sought (here .same a) row n i
 
 abbrev μ-loop : tie.MeasureT-loop
-μ-loop row n a i₀ i = n - i
+μ-loop n a row i₀ i = n - i
 
 loop-holds : tie.Need-loop-holds Inv-loop μ-loop
-loop-holds c = seek-first (here .same (c .args .a)) (c .args .row .now) (c .args .n) (omega arith)
+loop-holds c = seek-first (here .same (c .args .a)) (c .args .t1) (c .args .n) (omega arith)
 
 returns : tie.Need-returns Inv-loop μ-loop
 returns c =

@@ -31,7 +31,7 @@ loop-again c =
       ⊎-elim
           (λ w. shift-blank s (i - 1) (c .if1 .row) e (omega arith) (w .0 .taken)
           (w .2 ∙ ap (λ (v : Addr). set (c .before .before .loop .row) i v) (w .1 .ensures)))
-          (λ w. shift-up s (i - 1) (c .if1 .row) e (omega arith) (omega (arith, w .0 .left)) (w .1))
+          (λ w. shift-up s (i - 1) (c .if1 .row) e (omega arith) (omega (arith, w .0 .left)) (w .2))
           (c .if1 .came),
     )
 

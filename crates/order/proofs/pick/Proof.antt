@@ -49,13 +49,13 @@ mul-left c =
 mul-x : tie.Need-mul-x Inv-loop μ-loop
 mul-x c = omega (arith, c .before .before .before .loop .inv .ready .place, c .before .before .before .loop .inv .ready .few)
 
-array-read-x : tie.Need-array-read-x Inv-loop μ-loop
-array-read-x c = omega (arith, c .before .before .before .loop .inv .ready .place, c .before .before .before .loop .inv .ready .few)
+array-copy-out-x : tie.Need-array-copy-out-x Inv-loop μ-loop
+array-copy-out-x c = omega (arith, c .before .before .before .loop .inv .ready .place, c .before .before .before .loop .inv .ready .few)
 
 advance-requires : tie.Need-advance-requires Inv-loop μ-loop
 advance-requires c κs =
-    let i = c .before .before .before .loop .inv in
-    (i .ready, bounds (c .before) .0, i .within)
+    let i = c .before .before .before .before .loop .inv in
+    (i .ready, bounds (c .before .before) .0, i .within)
 
 -- a lent row's length is a number of the machine
 long : (s : tie.Start Inv-loop μ-loop) → Fits w64 (length (s .args .draws .now))
@@ -64,40 +64,40 @@ long s = search needs
 add-next : tie.Need-add-next Inv-loop μ-loop
 add-next c =
     let v = c .before .before .before in
-    let l = v .before .before .before .before .loop in
-    let a = v .before .before .before .before .before .before .before .before .before .args in
+    let l = v .before .before .before .before .before .loop in
+    let a = v .before .before .before .before .before .before .before .before .before .before .args in
     let h : l .next + c .before .drew .given .0 .0 ≤ length (a .draws .now) =
     used-fits (a .order) (a .n) (a .own) (a .exclusion) (a .wanted) (a .draws .now) (a .from) (l .ahead) (l .next) (v .advance .result) _ (l .inv .within) (v .advance .ensures) (c .before .drew .given .1) in
-    omega (arith, long (v .before .before .before .before .before .before .before .before .before) .fits)
+    omega (arith, long (v .before .before .before .before .before .before .before .before .before .before) .fits)
 
 returns : tie.Need-returns Inv-loop μ-loop
 returns c =
     let v = c .before .before .before .before in
-    let l = v .before .before .before .before .loop in
-    let a = v .before .before .before .before .before .before .before .before .before .args in
+    let l = v .before .before .before .before .before .loop in
+    let a = v .before .before .before .before .before .before .before .before .before .before .args in
     let nobody : c .without .result .picks .count ≡ 0 = ap (λ (p : Picked). p .picks .count) (c .without .ensures) in (
       c .without .ensures
           ∙ left-short (a .order) (a .n) (a .own) (a .exclusion) (a .wanted) (a .draws .now) (a .from) _ (l .left) (l .ahead) (l .picks) (l .next) (v .advance .result) _
-          (l .inv) (going (v .before .before)) (v .advance .ensures) (c .before .before .drew2 .given .1),
+          (l .inv) (going (v .before .before .before)) (v .advance .ensures) (c .before .before .drew2 .given .1),
       omega arith,
     )
 
 noted-requires : tie.Need-noted-requires Inv-loop μ-loop
-noted-requires c κs = bounds (c .before .before .before .before .before .before .before) .2
+noted-requires c κs = bounds (c .before .before .before .before .before .before .before .before) .2
 
 sub-left : tie.Need-sub-left Inv-loop μ-loop
-sub-left c = bounds (c .before .before .before .before .before .before .before .before) .1
+sub-left c = bounds (c .before .before .before .before .before .before .before .before .before) .1
 
 loop-less : tie.Need-loop-less Inv-loop μ-loop
-loop-less c = omega (arith, bounds (c .before .before .before .before .before .before .before .before) .1)
+loop-less c = omega (arith, bounds (c .before .before .before .before .before .before .before .before .before) .1)
 
 loop-again : tie.Need-loop-again Inv-loop μ-loop
 loop-again c =
     let v = c .before .before .before .before .before .before in
-    let l = v .before .before .before .before .loop in
-    let a = v .before .before .before .before .before .before .before .before .before .args in
+    let l = v .before .before .before .before .before .loop in
+    let a = v .before .before .before .before .before .before .before .before .before .before .args in
     left-look (a .order) (a .n) (a .own) (a .exclusion) (a .wanted) (a .draws .now) (a .from) _ (l .left) (l .ahead) (l .picks) (l .next) (v .advance .result) _ (c .before .passed .result) (c .noted .result)
-    (l .inv) (going (v .before .before)) (v .advance .ensures) (c .before .before .before .before .drew .given .1) (c .before .passed .ensures) (c .noted .ensures)
+    (l .inv) (going (v .before .before .before)) (v .advance .ensures) (c .before .before .before .before .drew .given .1) (c .before .passed .ensures) (c .noted .ensures)
 
 sub-t20 : tie.Need-sub-t20 Inv-loop μ-loop
 sub-t20 c = c .before .before .loop .inv .after
@@ -124,7 +124,7 @@ pick-spec =
     loop-holds
     (λ c κs. search needs)
     mul-x
-    array-read-x
+    array-copy-out-x
     advance-requires
     (λ c. search needs)
     add-next

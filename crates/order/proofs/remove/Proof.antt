@@ -25,7 +25,7 @@ loop-holds c =
 loop-again : tie.Need-loop-again Inv-loop μ-loop
 loop-again c =
     let l = c .before .before .loop in
-    ⊎-elim (λ w. close-before (l .inv) _ (omega arith) (w .0 .taken) (w .1)) (λ w. close-after (l .inv) _ (omega arith) (w .0 .left) (w .1)) (c .if1 .came)
+    ⊎-elim (λ w. close-before (l .inv) _ (omega arith) (w .0 .taken) (w .2)) (λ w. close-after (l .inv) _ (omega arith) (w .0 .left) (w .2)) (c .if1 .came)
 
 returns : tie.Need-returns Inv-loop μ-loop
 returns c = close-ends (c .before .loop .inv) (omega arith)

@@ -58,22 +58,22 @@ below : (c : tie.After-shared-slice-known Inv-loop μ-loop)
 below c = mod-lt (getD (c .before .before .before .before .args .draws .now) (c .before .before .before .loop .next) 0) (omega arith)
 
 mul-y : tie.Need-mul-y Inv-loop μ-loop
-mul-y c = omega (arith, below c)
+mul-y c = omega (arith, below (c .before))
 
-array-read-y : tie.Need-array-read-y Inv-loop μ-loop
-array-read-y c = omega (arith, below c)
+array-copy-out-y : tie.Need-array-copy-out-y Inv-loop μ-loop
+array-copy-out-y c = omega (arith, below (c .before))
 
 mul-out-2 : tie.Need-mul-out-2 Inv-loop μ-loop
-mul-out-2 c = omega (arith, below c)
+mul-out-2 c = omega (arith, below (c .before .before))
 
-array-write-out-2 : tie.Need-array-write-out-2 Inv-loop μ-loop
-array-write-out-2 c = omega (arith, below c)
+array-set-from-out-2 : tie.Need-array-set-from-out-2 Inv-loop μ-loop
+array-set-from-out-2 c = omega (arith, below (c .before .before))
 
 loop-again : tie.Need-loop-again Inv-loop μ-loop
 unfolding swap
 loop-again c =
-    let a = c .before .before .before .before .args in
-    let l = c .before .before .before .loop in
+    let a = c .before .before .before .before .before .before .args in
+    let l = c .before .before .before .before .before .loop in
     let j : ℕ = getD (a .draws .now) (l .next) 0 % l .i in
     let k : ℕ = l .i - 1 in
     record {
@@ -81,12 +81,12 @@ loop-again c =
       after = omega (arith, l .inv .after);
       within = omega arith;
       long = simp length-set (l .inv .long);
-      rest = drop-swap (here .blank) (a .n) (l .out) k j (omega (arith, l .inv .few)) (omega (arith, below c, l .inv .few)) ∙ l .inv .rest;
+      rest = drop-swap (here .blank) (a .n) (l .out) k j (omega (arith, l .inv .few)) (omega (arith, below (c .before .before), l .inv .few)) ∙ l .inv .rest;
       same =
           l .inv .same
           ∙ shuffle-turn (here .blank) (l .i) (take (a .n) (l .out)) (a .draws .now) (l .next) (omega arith) (omega arith)
           ∙ ap (λ (r : List Addr). shuffleFrom (here .blank) (k - 1) r (drop (l .next + 1) (a .draws .now)))
-          (sym (take-swap (here .blank) (a .n) (l .out) k j (omega (arith, l .inv .few)) (omega (arith, below c, l .inv .few))));
+          (sym (take-swap (here .blank) (a .n) (l .out) k j (omega (arith, l .inv .few)) (omega (arith, below (c .before .before), l .inv .few))));
     }
 
 returns-2 : tie.Need-returns-2 Inv-loop μ-loop
@@ -112,11 +112,11 @@ shuffle-spec =
     (λ c. search needs)
     (λ c. search needs)
     mul-y
-    array-read-y
+    array-copy-out-y
     (λ c. search needs)
     (λ c. search needs)
     mul-out-2
-    array-write-out-2
+    array-set-from-out-2
     (λ c. search needs)
     (λ c. search needs)
     loop-again

@@ -37,14 +37,11 @@ post-requires : tie.Need-post-requires
 post-requires c κs =
     let m = c .before in
     let q = none-there (m .none .result) (m .none .ensures) in
-    (q .0, q .1, m .before .before .before .before .before .before .pre .2, q .2)
+    (q .0, q .1, m .before .before .before .before .before .before .before .before .pre .2, q .2)
 
 -- rows have their lengths
 long : (c : tie.Start) → length (c .args .rows) ≡ 64
 long c = search needs
-
-wide : (c : tie.Start) → length (c .args .picks .row) ≡ 4
-wide c = search needs
 
 written-there : (m mail : Mail) (target : Addr) (action : Action) (rows : List Gossip) (count : ℕ) → m ≡ mailOf [] → mail ≡ posted m target action rows count → mail .written ≡ count
 unfolding mailOf posted
@@ -58,14 +55,14 @@ returns-2 c =
     let g = p .before in
     let m = g .before in
     let k = m .before in
-    let e = k .before .before .before in
+    let e = k .before .before .before .before .before in
     let s = e .before .before in
     let a = s .args in
     record {
       is =
           c .kept .ensures
           ∙ pinged-one (a .node) (a .picks) (a .rows) (a .count) (a .used) (a .tick) (k .member-number .result) (h .change .result) (p .post .result)
-          (omega (arith, e .if1 .left)) (omega (arith, wide s)) (omega (arith, long s, s .pre .2)) (k .member-number .ensures) (h .change .ensures)
+          (omega (arith, e .if1 .left)) (omega (arith, k .before .before .before .has-picks .ensures)) (omega (arith, long s, s .pre .2)) (k .member-number .ensures) (h .change .ensures)
           (p .post .ensures ∙ (λ i. posted (m .none .ensures i) (getD (a .picks .row) 0 (here .blank)) (g .new-ping .ensures i) (a .rows) (a .count)));
       written = omega (arith, ap (λ (x : Stepped). x .written) (c .kept .ensures), written-there (m .none .result) (p .post .result) _ _ (a .rows) (a .count) (m .none .ensures) (p .post .ensures), s .pre .2);
       reported = omega (arith, ap (λ (x : Stepped). x .reported) (c .kept .ensures));
@@ -78,6 +75,7 @@ pinged-spec =
     (λ c κs. search needs)
     (λ c κs. search needs)
     returns
+    (λ c κs. search needs)
     (λ c. search needs)
     (λ c κs. search needs)
     (λ c κs. search needs)

@@ -47,7 +47,7 @@ get-member-list-requires c κs =
 
 ask-group-requires : tie.Need-ask-group-requires
 ask-group-requires c κs =
-    let d = c .before .before .before .before in
+    let d = c .before .before .before .before .before in
     let k = d .before .before .before .before in
     let o = k .before .before in
     let p = o .before in (
@@ -58,7 +58,7 @@ ask-group-requires c κs =
 returns-2 : tie.Need-returns-2
 returns-2 c =
     let t = c .before in
-    let d = t .before .before .before .before in
+    let d = t .before .before .before .before .before in
     let k = d .before .before .before .before in
     let o = k .before .before in
     let p = o .before in

@@ -16,6 +16,9 @@ use Rattle.rules.proofs.judge.Tie as tie
 abbrev on : tie.Start → Event → Verdict
 on s e = fromVerdict (M.judge here (s .args .own) (viewMembers (s .args .members) .table) (toFound (s .args .dead)) (toEvent e))
 
+returns : tie.Need-returns
+returns c = sym (ap (on (c .before .before)) (c .enum-told .given .1))
+
 returns-2 : tie.Need-returns-2
 returns-2 c = let e = c .before .before in c .joined .ensures ∙ sym (ap (on (e .before .before)) (e .event .given .1))
 
@@ -41,7 +44,7 @@ judge-spec =
     (λ c κs. search needs)
     (λ c. search needs)
     (λ c κs. search needs)
-    (λ c. search needs)
+    returns
     returns-2
     returns-3
     returns-4

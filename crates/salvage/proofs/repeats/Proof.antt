@@ -7,8 +7,8 @@ use Rattle.salvage.proofs.repeats.Tie as tie
 
 returns : tie.Need-returns
 returns c =
-    let a = c .before .before .args in
-    repeat-is (a .t1) (a .n) (a .a) _ (search needs) (c .find-place .ensures .0)
+    let a = c .before .args in
+    repeat-is (a .row) (a .n) (a .a) _ (search needs) (c .find-place .ensures .0)
 
 pub repeats-spec : {M : Type 1} → statement M
 repeats-spec = tie.close (tie.spec (λ c κs. search needs) returns)

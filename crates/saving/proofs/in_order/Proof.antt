@@ -18,8 +18,8 @@ loop-holds c = going-none (c .before .before .before .before .args .members) (c 
 
 loop-again : tie.Need-loop-again Inv-loop μ-loop
 loop-again c =
-    let s = c .before .before .before .before .before .before .before in
-    going-more (s .args .members) (s .pre) _ _ _ _ (c .before .before .loop .inv) (omega (arith, count-is (s .args .members) (s .pre) _ (c .before .before .before .before .before .before .len .ensures .0))) (search needs) (c .find .ensures .0)
+    let s = c .before .before .before .before .before .before .before .before in
+    going-more (s .args .members) (s .pre) _ _ _ _ (c .before .before .before .loop .inv) (omega (arith, count-is (s .args .members) (s .pre) _ (c .before .before .before .before .before .before .before .len .ensures .0))) (search needs) (c .find .ensures .0)
 
 returns : tie.Need-returns Inv-loop μ-loop
 returns c =

@@ -1,6 +1,6 @@
 -- `saving::set_up` meets its contract: 1, or the node.
 -- Assumes nothing.
-use mathlib.Core.Path.{_≡_, _∙_}
+use mathlib.Core.Path.{_∙_}
 use Rattle.saving.proofs.Restoring.{set-up-refused, set-up-done}
 use borrow.Author.Needs.{needs}
 use Rattle.saving.proofs.set_up.Statement.{statement}
@@ -13,9 +13,9 @@ returns c =
 
 returns-2 : tie.Need-returns-2
 returns-2 c =
-    let a = c .before .before .before .before .before .before .before .args in
+    let a = c .before .before .before .before .before .before .before .before .args in
     (λ i. record { answer = c .before .plain .ensures i; wait = c .new3 .ensures i })
-    ∙ set-up-done (a .loaded) (a .settings) (a .tick) _ _ (c .before .before .before .before .before .before .in-range .ensures) (c .before .before .before .before .before .if1 .left)
+    ∙ set-up-done (a .loaded) (a .settings) (a .tick) _ _ (c .before .before .before .before .before .before .before .in-range .ensures) (c .before .before .before .before .before .before .if1 .left)
     (λ i. record {
       settings = a .settings;
       own = a .loaded .own;

@@ -109,8 +109,8 @@ module _ {M : Type 1} (𝓤 : URA M) (H : Heap 𝓤) (A : Atoms 𝓤) (W : Given
   in-events : Part Go W (cell (dval d)) fullShare (tyArray T′.mir 1) l 8 (rval (d .events)) (λ u. cell (vstruct (setV (fields d) 1 u)))
   in-events = field-part 𝓤 H A W (nameOf D′.mir) (tysOf D′.mir) l (fields d) 1 (tyArray T′.mir 1) 8 refl
 
-  in-answer : Part Go W (cell (dval d)) fullShare (fieldTy D′.mir 2) l 40 (LL.val R.the-type R′.the-laws (d .answer)) (λ u. cell (vstruct (setV (fields d) 2 u)))
-  in-answer = field-part 𝓤 H A W (nameOf D′.mir) (tysOf D′.mir) l (fields d) 2 (fieldTy D′.mir 2) 40 refl
+  in-answer : Part Go W (cell (dval d)) fullShare (fieldTy D′.mir 2) l 72 (LL.val R.the-type R′.the-laws (d .answer)) (λ u. cell (vstruct (setV (fields d) 2 u)))
+  in-answer = field-part 𝓤 H A W (nameOf D′.mir) (tysOf D′.mir) l (fields d) 2 (fieldTy D′.mir 2) 72 refl
 
 -- the contract of the call by value
 module _ {M : Type 1} (𝓤 : URA M) (H : Heap 𝓤) (A : Atoms 𝓤) (mem : Memory → SProp 𝓤) (run : Routine → Fun 𝓤) where
@@ -205,7 +205,7 @@ module _ {M : Type 1} (𝓤 : URA M) (H : Heap 𝓤) (A : Atoms 𝓤) (W : Given
             wrote ! tt 1 κ q b o γ ys (d .events) (d .reported) u (λ ws ew l r isu.
             land ! (from ! (stop !)) (init ! 6 refl (nothing-lawful 𝓤 H A W .typed r _ isu .0)) $
             -- [the token; the last list; _8 at 2; …]
-            assigns ! (agg ! (and-then ! (load ! (from ! (fld ! {τ = tyInt w64} {d = 0} refl (stop !))) (look-in ! 10 (in-reported 𝓤 H A W l₄ d))) (and-then ! (load ! (from ! (fld ! {τ = fieldTy D′.mir 2} {d = 40} refl (stop !))) (look-in ! 10 (in-answer 𝓤 H A W l₄ d))) (no-more !)))) (from ! (stop !)) (init ! 18 refl (LL.lawful O.the-type O′.the-laws 𝓤 H A W .typed (out (d .answer) (d .reported)) _ (outcome-is d ud isd) .0)) $
+            assigns ! (agg ! (and-then ! (load ! (from ! (fld ! {τ = tyInt w64} {d = 0} refl (stop !))) (look-in ! 10 (in-reported 𝓤 H A W l₄ d))) (and-then ! (load ! (from ! (fld ! {τ = fieldTy D′.mir 2} {d = 72} refl (stop !))) (look-in ! 10 (in-answer 𝓤 H A W l₄ d))) (no-more !)))) (from ! (stop !)) (init ! 18 refl (LL.lawful O.the-type O′.the-laws 𝓤 H A W .typed (out (d .answer) (d .reported)) _ (outcome-is d ud isd) .0)) $
             returns ! (look ! 18 refl) $ forget ! 2 refl $ forget ! 4 refl $ forget ! 6 refl $ forget ! 8 refl $ forget ! 10 refl $ forget ! 12 refl $ forget ! 14 refl $ forget ! 16 refl $ forget ! 18 refl $
             move ! (18 ∷ 19 ∷ []) $ free1 ! $ move ! (16 ∷ 17 ∷ []) $ free1 ! $ move ! (14 ∷ 15 ∷ []) $ free1 ! $ move ! (12 ∷ 13 ∷ []) $ free1 ! $ move ! (10 ∷ 11 ∷ []) $ free1 ! $ move ! (8 ∷ 9 ∷ []) $ free1 ! $ move ! (6 ∷ 7 ∷ []) $ free1 ! $ move ! (4 ∷ 5 ∷ []) $ free1 ! $ move ! (2 ∷ 3 ∷ []) $ free1 ! $ free0 ! $
             keep ! (0 ∷ 1 ∷ []) $ by ! (exits d (outcome-is d ud isd) ws l (ed .0) ew)))

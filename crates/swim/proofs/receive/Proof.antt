@@ -144,11 +144,11 @@ module _ {M : Type 1} (𝓤 : URA M) (H : Heap 𝓤) (A : Atoms 𝓤) (W : Given
   in-gossip : Part Go W (cell (dval d)) fullShare (tyArray T′.mir 64) l 16 (rval (d .gossip)) (λ u. cell (vstruct (setV (fields d) 2 u)))
   in-gossip = field-part 𝓤 H A W (nameOf D′.mir) (tysOf D′.mir) l (fields d) 2 (tyArray T′.mir 64) 16 refl
 
-  in-events : Part Go W (cell (dval d)) fullShare (tyArray T′.mir 65) l 2064 (rval (d .events)) (λ u. cell (vstruct (setV (fields d) 3 u)))
-  in-events = field-part 𝓤 H A W (nameOf D′.mir) (tysOf D′.mir) l (fields d) 3 (tyArray T′.mir 65) 2064 refl
+  in-events : Part Go W (cell (dval d)) fullShare (tyArray T′.mir 65) l 4112 (rval (d .events)) (λ u. cell (vstruct (setV (fields d) 3 u)))
+  in-events = field-part 𝓤 H A W (nameOf D′.mir) (tysOf D′.mir) l (fields d) 3 (tyArray T′.mir 65) 4112 refl
 
-  in-answer : Part Go W (cell (dval d)) fullShare (fieldTy D′.mir 4) l 4144 (LL.val R.the-type R′.the-laws (d .answer)) (λ u. cell (vstruct (setV (fields d) 4 u)))
-  in-answer = field-part 𝓤 H A W (nameOf D′.mir) (tysOf D′.mir) l (fields d) 4 (fieldTy D′.mir 4) 4144 refl
+  in-answer : Part Go W (cell (dval d)) fullShare (fieldTy D′.mir 4) l 8272 (LL.val R.the-type R′.the-laws (d .answer)) (λ u. cell (vstruct (setV (fields d) 4 u)))
+  in-answer = field-part 𝓤 H A W (nameOf D′.mir) (tysOf D′.mir) l (fields d) 4 (fieldTy D′.mir 4) 8272 refl
 
 -- the contracts of the reading and of the call by value
 module _ {M : Type 1} (𝓤 : URA M) (H : Heap 𝓤) (A : Atoms 𝓤) (mem : Memory → SProp 𝓤) (run : Routine → Fun 𝓤) where
@@ -309,10 +309,10 @@ module _ {M : Type 1} (𝓤 : URA M) (H : Heap 𝓤) (A : Atoms 𝓤) (W : Given
             assigns ! (addr ! (from ! (fld ! refl (hop ! (look-in ! 26 (sub ! 0 refl (whole !))) (stop !))))) (from ! (stop !)) (init ! 8 refl (tt, tt)) $
             assigns ! (agg ! (and-then ! (load ! (from ! (stop !)) (look ! 8 refl)) (and-then ! (load ! (from ! (fld ! refl (stop !))) (look-in ! 26 (sub ! 1 refl (whole !)))) (no-more !)))) (from ! (stop !)) (init ! 6 refl (tt, (tt, (record { fits = fe }, tt)))) $
             move ! (4 ∷ 5 ∷ []) $ use2 W (raw (Write 𝓤 H A 65 .pre (to-write 𝓤 H A 65 κ₃ q₃ be oe γe es (d .events) (d .reported)))) (ask-write 𝓤 H A 65 κ₃ q₃ be oe γe es W 3 (d .events) (d .reported) (events-are d ud isd) (reported-fits d ud isd) (ed .3, ed .4)) $
-            calls-at ! fm (Write 𝓤 H A 65) known-65 (to-write 𝓤 H A 65 κ₃ q₃ be oe γe es (d .events) (d .reported)) (and-then ! (load ! (from ! (stop !)) (look ! 5 refl)) (and-then ! (load ! (from ! (fld ! {τ = tyArray T′.mir 65} {d = 2064} refl (stop !))) (look-in ! 21 (in-events 𝓤 H A W l₈ d))) (and-then ! (load ! (from ! (fld ! {τ = tyInt w64} {d = 8} refl (stop !))) (look-in ! 21 (in-reported 𝓤 H A W l₈ d))) (no-more !)))) (λ ue.
+            calls-at ! fm (Write 𝓤 H A 65) known-65 (to-write 𝓤 H A 65 κ₃ q₃ be oe γe es (d .events) (d .reported)) (and-then ! (load ! (from ! (stop !)) (look ! 5 refl)) (and-then ! (load ! (from ! (fld ! {τ = tyArray T′.mir 65} {d = 4112} refl (stop !))) (look-in ! 21 (in-events 𝓤 H A W l₈ d))) (and-then ! (load ! (from ! (fld ! {τ = tyInt w64} {d = 8} refl (stop !))) (look-in ! 21 (in-reported 𝓤 H A W l₈ d))) (no-more !)))) (λ ue.
             wrote ! tt 65 κ₃ q₃ be oe γe es (d .events) (d .reported) ue (λ vs ev l′ r′ isu′. land ! (from ! (stop !)) (store ! 14 refl (nothing-lawful 𝓤 H A W .typed r′ _ isu′ .0)) $
             -- [κ₃'s token; events' last list; κ₂'s; gossip's last list; κ₁'s; κ₀'s; _16 at 6; …]
-            assigns ! (agg ! (and-then ! (load ! (from ! (fld ! {τ = tyInt w64} {d = 8} refl (stop !))) (look-in ! 22 (in-reported 𝓤 H A W l₈ d))) (and-then ! (load ! (from ! (fld ! {τ = fieldTy D′.mir 4} {d = 4144} refl (stop !))) (look-in ! 22 (in-answer 𝓤 H A W l₈ d))) (no-more !)))) (from ! (stop !)) (init ! 38 refl (LL.lawful O.the-type O′.the-laws 𝓤 H A W .typed (out (d .answer) (d .reported)) _ (outcome-is d ud isd) .0)) $
+            assigns ! (agg ! (and-then ! (load ! (from ! (fld ! {τ = tyInt w64} {d = 8} refl (stop !))) (look-in ! 22 (in-reported 𝓤 H A W l₈ d))) (and-then ! (load ! (from ! (fld ! {τ = fieldTy D′.mir 4} {d = 8272} refl (stop !))) (look-in ! 22 (in-answer 𝓤 H A W l₈ d))) (no-more !)))) (from ! (stop !)) (init ! 38 refl (LL.lawful O.the-type O′.the-laws 𝓤 H A W .typed (out (d .answer) (d .reported)) _ (outcome-is d ud isd) .0)) $
             returns ! (look ! 38 refl) $ forget ! 6 refl $ forget ! 8 refl $ forget ! 10 refl $ forget ! 12 refl $ forget ! 14 refl $ forget ! 16 refl $ forget ! 18 refl $ forget ! 20 refl $ forget ! 22 refl $ forget ! 24 refl $ forget ! 26 refl $ forget ! 28 refl $ forget ! 30 refl $ forget ! 32 refl $ forget ! 34 refl $ forget ! 36 refl $ forget ! 38 refl $
             move ! (38 ∷ 39 ∷ []) $ free1 ! $ move ! (36 ∷ 37 ∷ []) $ free1 ! $ move ! (34 ∷ 35 ∷ []) $ free1 ! $ move ! (32 ∷ 33 ∷ []) $ free1 ! $ move ! (30 ∷ 31 ∷ []) $ free1 ! $ move ! (28 ∷ 29 ∷ []) $ free1 ! $ move ! (26 ∷ 27 ∷ []) $ free1 ! $ move ! (24 ∷ 25 ∷ []) $ free1 ! $ move ! (22 ∷ 23 ∷ []) $ free1 ! $ move ! (20 ∷ 21 ∷ []) $ free1 ! $ move ! (18 ∷ 19 ∷ []) $ free1 ! $ move ! (16 ∷ 17 ∷ []) $ free1 ! $ move ! (14 ∷ 15 ∷ []) $ free1 ! $ move ! (12 ∷ 13 ∷ []) $ free1 ! $ move ! (10 ∷ 11 ∷ []) $ free1 ! $ move ! (8 ∷ 9 ∷ []) $ free1 ! $ move ! (6 ∷ 7 ∷ []) $ free1 ! $ free0 ! $
             keep ! (5 ∷ 4 ∷ 2 ∷ 0 ∷ 3 ∷ 1 ∷ []) $ by ! (exits d (outcome-is d ud isd) ws vs l l′ (by-rows rs v d er ed) ew ev)))))

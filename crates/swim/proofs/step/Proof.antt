@@ -131,20 +131,20 @@ module _ {M : Type 1} (𝓤 : URA M) (H : Heap 𝓤) (A : Atoms 𝓤) (W : Given
   in-wait : Part Go W (cell (dval d)) fullShare Y′.mir l 0 (wval (d .wait)) (λ u. cell (vstruct (setV (fields d) 0 u)))
   in-wait = field-part 𝓤 H A W (nameOf D′.mir) (tysOf D′.mir) l (fields d) 0 Y′.mir 0 refl
 
-  in-written : Part Go W (cell (dval d)) fullShare (tyInt w64) l 32 (vint w64 (d .written)) (λ u. cell (vstruct (setV (fields d) 1 u)))
-  in-written = field-part 𝓤 H A W (nameOf D′.mir) (tysOf D′.mir) l (fields d) 1 (tyInt w64) 32 refl
+  in-written : Part Go W (cell (dval d)) fullShare (tyInt w64) l 48 (vint w64 (d .written)) (λ u. cell (vstruct (setV (fields d) 1 u)))
+  in-written = field-part 𝓤 H A W (nameOf D′.mir) (tysOf D′.mir) l (fields d) 1 (tyInt w64) 48 refl
 
-  in-reported : Part Go W (cell (dval d)) fullShare (tyInt w64) l 40 (vint w64 (d .reported)) (λ u. cell (vstruct (setV (fields d) 2 u)))
-  in-reported = field-part 𝓤 H A W (nameOf D′.mir) (tysOf D′.mir) l (fields d) 2 (tyInt w64) 40 refl
+  in-reported : Part Go W (cell (dval d)) fullShare (tyInt w64) l 56 (vint w64 (d .reported)) (λ u. cell (vstruct (setV (fields d) 2 u)))
+  in-reported = field-part 𝓤 H A W (nameOf D′.mir) (tysOf D′.mir) l (fields d) 2 (tyInt w64) 56 refl
 
-  in-gossip : Part Go W (cell (dval d)) fullShare (tyArray T′.mir 256) l 48 (rval (d .gossip)) (λ u. cell (vstruct (setV (fields d) 3 u)))
-  in-gossip = field-part 𝓤 H A W (nameOf D′.mir) (tysOf D′.mir) l (fields d) 3 (tyArray T′.mir 256) 48 refl
+  in-gossip : Part Go W (cell (dval d)) fullShare (tyArray T′.mir 256) l 64 (rval (d .gossip)) (λ u. cell (vstruct (setV (fields d) 3 u)))
+  in-gossip = field-part 𝓤 H A W (nameOf D′.mir) (tysOf D′.mir) l (fields d) 3 (tyArray T′.mir 256) 64 refl
 
-  in-events : Part Go W (cell (dval d)) fullShare (tyArray T′.mir 1) l 8240 (rval (d .events)) (λ u. cell (vstruct (setV (fields d) 4 u)))
-  in-events = field-part 𝓤 H A W (nameOf D′.mir) (tysOf D′.mir) l (fields d) 4 (tyArray T′.mir 1) 8240 refl
+  in-events : Part Go W (cell (dval d)) fullShare (tyArray T′.mir 1) l 16448 (rval (d .events)) (λ u. cell (vstruct (setV (fields d) 4 u)))
+  in-events = field-part 𝓤 H A W (nameOf D′.mir) (tysOf D′.mir) l (fields d) 4 (tyArray T′.mir 1) 16448 refl
 
-  in-answer : Part Go W (cell (dval d)) fullShare (fieldTy D′.mir 5) l 8272 (LL.val R.the-type R′.the-laws (d .answer)) (λ u. cell (vstruct (setV (fields d) 5 u)))
-  in-answer = field-part 𝓤 H A W (nameOf D′.mir) (tysOf D′.mir) l (fields d) 5 (fieldTy D′.mir 5) 8272 refl
+  in-answer : Part Go W (cell (dval d)) fullShare (fieldTy D′.mir 5) l 16512 (LL.val R.the-type R′.the-laws (d .answer)) (λ u. cell (vstruct (setV (fields d) 5 u)))
+  in-answer = field-part 𝓤 H A W (nameOf D′.mir) (tysOf D′.mir) l (fields d) 5 (fieldTy D′.mir 5) 16512 refl
 
 -- the contract of the call by value
 module _ {M : Type 1} (𝓤 : URA M) (H : Heap 𝓤) (A : Atoms 𝓤) (at-mem : Memory → SProp 𝓤) (run : Routine → Fun 𝓤) where
@@ -275,16 +275,16 @@ module _ {M : Type 1} (𝓤 : URA M) (H : Heap 𝓤) (A : Atoms 𝓤) (W : Given
             assigns ! (addr ! (from ! (fld ! refl (hop ! (look-in ! 28 (sub ! 0 refl (whole !))) (stop !))))) (from ! (stop !)) (init ! 14 refl (tt, tt)) $
             assigns ! (agg ! (and-then ! (load ! (from ! (stop !)) (look ! 14 refl)) (and-then ! (load ! (from ! (fld ! refl (stop !))) (look-in ! 28 (sub ! 1 refl (whole !)))) (no-more !)))) (from ! (stop !)) (init ! 12 refl (tt, (tt, (record { fits = fg }, tt)))) $
             move ! (5 ∷ 7 ∷ []) $ use2 W (raw (Write 𝓤 H A 256 .pre (to-write 𝓤 H A 256 κ₂ q₂ bg og γg gs (d .gossip) (d .written)))) (ask-write 𝓤 H A 256 κ₂ q₂ bg og γg gs W 2 (d .gossip) (d .written) (gossip-is d ud isd) (written-fits d ud isd) (ed .1, ed .2)) $
-            calls-at ! fm (Write 𝓤 H A 256) known-256 (to-write 𝓤 H A 256 κ₂ q₂ bg og γg gs (d .gossip) (d .written)) (and-then ! (load ! (from ! (stop !)) (look ! 11 refl)) (and-then ! (load ! (from ! (fld ! {τ = tyArray T′.mir 256} {d = 48} refl (stop !))) (look-in ! 21 (in-gossip 𝓤 H A W l₈ d))) (and-then ! (load ! (from ! (fld ! {τ = tyInt w64} {d = 32} refl (stop !))) (look-in ! 21 (in-written 𝓤 H A W l₈ d))) (no-more !)))) (λ ug.
+            calls-at ! fm (Write 𝓤 H A 256) known-256 (to-write 𝓤 H A 256 κ₂ q₂ bg og γg gs (d .gossip) (d .written)) (and-then ! (load ! (from ! (stop !)) (look ! 11 refl)) (and-then ! (load ! (from ! (fld ! {τ = tyArray T′.mir 256} {d = 64} refl (stop !))) (look-in ! 21 (in-gossip 𝓤 H A W l₈ d))) (and-then ! (load ! (from ! (fld ! {τ = tyInt w64} {d = 48} refl (stop !))) (look-in ! 21 (in-written 𝓤 H A W l₈ d))) (no-more !)))) (λ ug.
             wrote ! tt 256 κ₂ q₂ bg og γg gs (d .gossip) (d .written) ug (λ ws ew l r isu. land ! (from ! (stop !)) (init ! 16 refl (nothing-lawful 𝓤 H A W .typed r _ isu .0)) $
             -- [κ₂'s token; gossip's last list; obs; the borrow; κ₀'s; κ₁'s; κ₃'s; events'; _15 at 8; …]
             assigns ! (addr ! (from ! (fld ! refl (hop ! (look-in ! 26 (sub ! 0 refl (whole !))) (stop !))))) (from ! (stop !)) (init ! 10 refl (tt, tt)) $
             assigns ! (agg ! (and-then ! (load ! (from ! (stop !)) (look ! 10 refl)) (and-then ! (load ! (from ! (fld ! refl (stop !))) (look-in ! 26 (sub ! 1 refl (whole !)))) (no-more !)))) (from ! (stop !)) (init ! 8 refl (tt, (tt, (record { fits = fe }, tt)))) $
             move ! (6 ∷ 7 ∷ []) $ use2 W (raw (Write 𝓤 H A 1 .pre (to-write 𝓤 H A 1 κ₃ q₃ be oe γe es (d .events) (d .reported)))) (ask-write 𝓤 H A 1 κ₃ q₃ be oe γe es W 3 (d .events) (d .reported) (events-are d ud isd) (reported-fits d ud isd) (ed .3, ed .4)) $
-            calls-at ! fm (Write 𝓤 H A 1) known-1 (to-write 𝓤 H A 1 κ₃ q₃ be oe γe es (d .events) (d .reported)) (and-then ! (load ! (from ! (stop !)) (look ! 7 refl)) (and-then ! (load ! (from ! (fld ! {τ = tyArray T′.mir 1} {d = 8240} refl (stop !))) (look-in ! 21 (in-events 𝓤 H A W l₈ d))) (and-then ! (load ! (from ! (fld ! {τ = tyInt w64} {d = 40} refl (stop !))) (look-in ! 21 (in-reported 𝓤 H A W l₈ d))) (no-more !)))) (λ ue.
+            calls-at ! fm (Write 𝓤 H A 1) known-1 (to-write 𝓤 H A 1 κ₃ q₃ be oe γe es (d .events) (d .reported)) (and-then ! (load ! (from ! (stop !)) (look ! 7 refl)) (and-then ! (load ! (from ! (fld ! {τ = tyArray T′.mir 1} {d = 16448} refl (stop !))) (look-in ! 21 (in-events 𝓤 H A W l₈ d))) (and-then ! (load ! (from ! (fld ! {τ = tyInt w64} {d = 56} refl (stop !))) (look-in ! 21 (in-reported 𝓤 H A W l₈ d))) (no-more !)))) (λ ue.
             wrote ! tt 1 κ₃ q₃ be oe γe es (d .events) (d .reported) ue (λ vs ev l′ r′ isu′. land ! (from ! (stop !)) (store ! 16 refl (nothing-lawful 𝓤 H A W .typed r′ _ isu′ .0)) $
             -- [κ₃'s token; events' last list; κ₂'s; gossip's last list; obs; the borrow; κ₀'s; κ₁'s; _15 at 8; …]
-            assigns ! (agg ! (and-then ! (load ! (from ! (fld ! {τ = tyInt w64} {d = 40} refl (stop !))) (look-in ! 22 (in-reported 𝓤 H A W l₈ d))) (and-then ! (load ! (from ! (fld ! {τ = fieldTy D′.mir 5} {d = 8272} refl (stop !))) (look-in ! 22 (in-answer 𝓤 H A W l₈ d))) (no-more !)))) (from ! (stop !)) (init ! 38 refl (LL.lawful O.the-type O′.the-laws 𝓤 H A W .typed (out (d .answer) (d .reported)) _ (outcome-is d ud isd) .0)) $
+            assigns ! (agg ! (and-then ! (load ! (from ! (fld ! {τ = tyInt w64} {d = 56} refl (stop !))) (look-in ! 22 (in-reported 𝓤 H A W l₈ d))) (and-then ! (load ! (from ! (fld ! {τ = fieldTy D′.mir 5} {d = 16512} refl (stop !))) (look-in ! 22 (in-answer 𝓤 H A W l₈ d))) (no-more !)))) (from ! (stop !)) (init ! 38 refl (LL.lawful O.the-type O′.the-laws 𝓤 H A W .typed (out (d .answer) (d .reported)) _ (outcome-is d ud isd) .0)) $
             returns ! (look ! 38 refl) $ forget ! 8 refl $ forget ! 10 refl $ forget ! 12 refl $ forget ! 14 refl $ forget ! 16 refl $ forget ! 18 refl $ forget ! 20 refl $ forget ! 22 refl $ forget ! 24 refl $ forget ! 26 refl $ forget ! 28 refl $ forget ! 30 refl $ forget ! 32 refl $ forget ! 34 refl $ forget ! 36 refl $ forget ! 38 refl $
             move ! (38 ∷ 39 ∷ []) $ free1 ! $ move ! (36 ∷ 37 ∷ []) $ free1 ! $ move ! (34 ∷ 35 ∷ []) $ free1 ! $ move ! (32 ∷ 33 ∷ []) $ free1 ! $ move ! (30 ∷ 31 ∷ []) $ free1 ! $ move ! (28 ∷ 29 ∷ []) $ free1 ! $ move ! (26 ∷ 27 ∷ []) $ free1 ! $ move ! (24 ∷ 25 ∷ []) $ free1 ! $
             move ! (22 ∷ 23 ∷ []) $ free1 ! $ move ! (20 ∷ 21 ∷ []) $ free1 ! $ move ! (18 ∷ 19 ∷ []) $ free1 ! $ move ! (16 ∷ 17 ∷ []) $ free1 ! $ move ! (14 ∷ 15 ∷ []) $ free1 ! $ move ! (12 ∷ 13 ∷ []) $ free1 ! $ move ! (10 ∷ 11 ∷ []) $ free1 ! $ move ! (8 ∷ 9 ∷ []) $ free1 ! $ free0 ! $

@@ -41,7 +41,7 @@ returns c = (c .plain .ensures ∙ end-full (death (c .before .before)) (c .befo
 
 returns-2 : tie.Need-returns-2
 returns-2 c =
-    let o = c .before .before .before .before in
+    let o = c .before .before .before .before .before in
     let q = death (o .before) in (
       (λ i. record { answer = c .plain2 .ensures i; events = q .gossip ∷ []; reported = 1 }) ∙ end-kept q (o .if1 .left),
       omega arith,

@@ -1,5 +1,4 @@
 //! Between the replay text's numbers and the published code's strings and generated types.
-use std::net::{Ipv4Addr, SocketAddrV4};
 
 use super::words::{
     Address, Gossips, Kind, Member, MemberState, Packet, PacketKind, Peer, Phase, Record,
@@ -11,15 +10,12 @@ use crate::{Event, NodeDeceased, NodeJoined, NodeRecovered, NodeState, NodeSuspe
 
 /// The canonical text `a.b.c.d:port`.
 pub fn text(address: Address) -> String {
-    let ip = Ipv4Addr::from((address >> 16) as u32);
-    SocketAddrV4::new(ip, address as u16).to_string()
+    let socket = address.socket().expect("the domain has addresses in range only");
+    socket.to_string()
 }
 
 pub fn address(text: &str) -> Address {
-    let parsed: SocketAddrV4 = text
-        .parse()
-        .expect("the oracle lends canonical addresses only");
-    u64::from(u32::from(*parsed.ip())) << 16 | u64::from(parsed.port())
+    Address::of_text(text).expect("the oracle lends canonical addresses only")
 }
 
 fn optional_text(address: Option<Address>) -> String {
@@ -186,15 +182,18 @@ pub fn phase(state: &FailureDetectorState) -> Phase {
 
 #[cfg(test)]
 mod tests {
-    use super::{address, text};
+    use super::{address, text, Address};
 
     #[test]
     fn addresses_go_to_text_and_back() {
-        assert_eq!(text(0), "0.0.0.0:0");
-        assert_eq!(text((1 << 48) - 1), "255.255.255.255:65535");
-        assert_eq!(text((10 << 24 | 1) << 16 | 7000), "10.0.0.1:7000");
+        assert_eq!(text(Address::four(0)), "0.0.0.0:0");
+        assert_eq!(text(Address::four((1 << 48) - 1)), "255.255.255.255:65535");
+        assert_eq!(text(Address::four((10 << 24 | 1) << 16 | 7000)), "10.0.0.1:7000");
+        assert_eq!(text(Address::six(0, 0)), "[::]:0");
+        assert_eq!(text(Address::six(0xffff_0102_0304, 80)), "[::ffff:1.2.3.4]:80");
+        assert_eq!(text(Address::six(0x0102_0304, 80)), "[::102:304]:80");
         for number in [0, 1, 65536, 0x0a00_0001_1b58, (1 << 48) - 1] {
-            assert_eq!(address(&text(number)), number);
+            assert_eq!(address(&text(Address::four(number))), Address::four(number));
         }
     }
 }

@@ -105,8 +105,8 @@ impl Coverage {
         self.count("setting send constant 8", settings.send_constant == 8);
         self.count("setting max_selected 1", settings.max_selected == 1);
         self.count("setting max_selected 64", settings.max_selected == 64);
-        self.count("setting max_size 59", settings.max_size == 59);
-        self.count("setting max_size 1373", settings.max_size == 1373);
+        self.count("setting max_size 111", settings.max_size == 111);
+        self.count("setting max_size 1169", settings.max_size == 1169);
     }
 
     fn observe_answer(&mut self, seen: &Seen) {

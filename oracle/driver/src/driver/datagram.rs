@@ -1,5 +1,4 @@
 //! The calls without a node: bytes are read and written by prost, and judged by the table of refusals.
-use std::net::SocketAddrV4;
 
 use prost::Message;
 
@@ -83,12 +82,6 @@ pub fn encode(packet: &Packet) -> Vec<u8> {
     SwimMessage { action }.encode_to_vec()
 }
 
-/// The number of a text that the standard library reads as an address.
-fn number(text: &str) -> Option<Address> {
-    let parsed: SocketAddrV4 = text.parse().ok()?;
-    Some(u64::from(u32::from(*parsed.ip())) << 16 | u64::from(parsed.port()))
-}
-
 /// The numbers of a message whose needed addresses are there.
 fn packet(message: &SwimMessage) -> Option<Packet> {
     let (kind, from, other, gossip) = match message.action.as_ref()? {
@@ -112,11 +105,11 @@ fn packet(message: &SwimMessage) -> Option<Packet> {
     let other = match other.as_str() {
         "" if kind == PacketKind::Req => return None,
         "" => None,
-        text => Some(number(text)?),
+        text => Some(Address::of_text(text)?),
     };
     Some(Packet {
         kind,
-        from: number(from)?,
+        from: Address::of_text(from)?,
         other,
         gossip: gossips(gossip)?,
     })
@@ -160,8 +153,8 @@ fn record(event: &Event) -> Option<Record> {
     };
     Some(Record {
         kind,
-        from: number(from)?,
-        subject: number(subject)?,
+        from: Address::of_text(from)?,
+        subject: Address::of_text(subject)?,
         number: incarnation,
     })
 }

@@ -5,7 +5,7 @@ use rand::Lent;
 
 use super::script::{Call, Creation, Rows, Settings};
 use super::words::{
-    Address, Gossips, Kind, Member, MemberState, Packet, Peer, Record, Wait, ADDRESS_LIMIT,
+    Address, Gossips, Kind, Member, MemberState, Packet, Peer, Record, Wait,
 };
 
 pub const MOST_LISTED: usize = 64;
@@ -44,7 +44,7 @@ fn refuse(number: u8, if_so: bool) -> Result<(), Outside> {
 }
 
 fn too_large(address: Address) -> bool {
-    address >= ADDRESS_LIMIT
+    !address.in_range()
 }
 
 pub fn check_creation(creation: &Creation) -> Result<(), Outside> {
@@ -63,7 +63,7 @@ fn in_range(settings: &Settings) -> bool {
         && settings.group <= 4
         && settings.send_constant <= 8
         && (1..=64).contains(&settings.max_selected)
-        && (59..=1373).contains(&settings.max_size)
+        && (111..=1169).contains(&settings.max_size)
 }
 
 /// Refusals 3, 4 and 5, which depend on the inputs alone.

@@ -42,6 +42,7 @@ usage: oracle run [quiet]            answer the script on standard input
        oracle decode                 write the message that prost reads in each line of bytes on standard input
        oracle texts SEED N           write N messages in protobuf's text format, for protoc
        oracle writes SEED N          write the write lines of the same messages
+       oracle addresses SEED LINES   write write lines, each with 130 structured addresses of IPv6
        oracle split                  write protoc's bytes of them as answers to the write lines
        oracle cover                  count what the script on standard input reaches; all of it must come up
        oracle time                   write the nanoseconds of each call of the script on standard input
@@ -110,6 +111,7 @@ fn carry(words: &[&str]) -> Option<io::Result<bool>> {
         ["decode"] => packets::decode(io::stdin().lock(), buffered_output()),
         ["texts", seed, count] => made(seed, count, packets::text_of),
         ["writes", seed, count] => made(seed, count, packets::write_line),
+        ["addresses", seed, lines] => addresses(seed, lines),
         ["split"] => packets::split(io::stdin().lock(), buffered_output()),
         _ => return None,
     })
@@ -155,6 +157,13 @@ fn generate_bytes(seed: &str, lines: &str) -> io::Result<bool> {
     let tally = bytes::generate(&mut out, count_of(seed)?, lines)?;
     out.flush()?;
     tally.write(lines, &mut io::stderr().lock())
+}
+
+fn addresses(seed: &str, lines: &str) -> io::Result<bool> {
+    let mut out = buffered_output();
+    bytes::addresses::generate(&mut out, count_of(seed)?, count_of(lines)?)?;
+    out.flush()?;
+    Ok(true)
 }
 
 fn count_of(word: &str) -> io::Result<u64> {

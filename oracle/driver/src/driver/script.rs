@@ -222,11 +222,11 @@ pub fn packet(words: &[&str]) -> Option<Packet> {
     let other = match *other {
         "-" if kind == PacketKind::Req => return None,
         "-" => None,
-        word => Some(number(word)?),
+        word => Some(address(word)?),
     };
     Some(Packet {
         kind,
-        from: number(from)?,
+        from: address(from)?,
         other,
         gossip: gossip(records)?,
     })
@@ -270,16 +270,21 @@ fn gossip_record(word: &str) -> Option<Option<Record>> {
     };
     Some(Some(Record {
         kind,
-        from: number(from)?,
-        subject: number(subject)?,
+        from: address(from)?,
+        subject: address(subject)?,
         number: number(incarnation)?,
     }))
 }
 
 fn peer(address: &str, incarnation: &str) -> Option<Peer> {
-    let address: Address = number(address)?;
+    let address = self::address(address)?;
     let number = number(incarnation)?;
     Some(Peer { address, number })
+}
+
+/// An address in the shortest form that says it.
+fn address(word: &str) -> Option<Address> {
+    Address::of_word(word, number)
 }
 
 /// A decimal number below 2^64, without sign or leading zeros.
@@ -363,8 +368,8 @@ mod tests {
             "read 1024 00ff0a",
             "write 65536 ping 1 -",
             "write 0 req 1 2 n j:1:2:3",
-            "new 1 1 1 1 1 3 6 1373 1 0 0",
-            "new 4294967295 1 1 1 1 3 6 1373 18446744073709551615 0 4294967295",
+            "new 1 1 1 1 1 3 6 1169 1 0 0",
+            "new 4294967295 1 1 1 1 3 6 1169 18446744073709551615 0 4294967295",
             "add 5 0 |",
             "add 5 18446744073709551615 | 1 2",
             "ping 5 - |",
@@ -406,10 +411,10 @@ mod tests {
             "write 1 add 1 0",
             "write ping 1 -",
             "write 1",
-            "new 1 1 1 1 1 3 6 1373 1 0",
-            "new 4294967296 1 1 1 1 3 6 1373 1 0 0",
-            "new 1 1 1 1 1 3 6 1373 - 0 0",
-            "new 1 1 1 1 1 3 6 1373 1 0 0 |",
+            "new 1 1 1 1 1 3 6 1169 1 0",
+            "new 4294967296 1 1 1 1 3 6 1169 1 0 0",
+            "new 1 1 1 1 1 3 6 1169 - 0 0",
+            "new 1 1 1 1 1 3 6 1169 1 0 0 |",
             "add 5 0",
             "add 5 0 ",
             "add 5 0 | ",

@@ -1,7 +1,7 @@
 //! Whole scripts and their answers: the worked numbers that run on a node, and the domain's edges.
 use super::run::{run, Manner};
 
-const NEW: &str = "new 10 10 10 10 1 3 6 1373 1 0 0\n";
+const NEW: &str = "new 10 10 10 10 1 3 6 1169 1 0 0\n";
 
 fn answers(script: &str, quiet: bool) -> String {
     let mut out = Vec::new();
@@ -49,7 +49,7 @@ fn a_tie_is_sent_x_z_y() {
 fn a_pick_may_give_one_peer_twice() {
     let order = "add 2 0 | 0\nadd 3 0 | 1\nadd 4 0 | 2\n";
     let requests = "wait req 9 0 0\nstep 0 |\nwait req 9 0 0\nstep 0 | 3 0 1";
-    let script = format!("new 10 10 10 10 2 3 1 1373 1 0 0\n{order}{requests}");
+    let script = format!("new 10 10 10 10 2 3 1 1169 1 0 0\n{order}{requests}");
     let all = answers(&script, true);
     assert!(
         all.contains("> 2 req 1 9 s:1:9:0\n> 3 req 1 9 s:1:9:0\n"),
@@ -138,13 +138,13 @@ fn is_outside(calls: &str) -> bool {
 #[test]
 fn refused_creations_are_outside() {
     for creation in [
-        "new 10 10 10 10 1 3 6 1373 281474976710656 0 0",
-        "new 2147483648 10 10 10 1 3 6 1373 1 0 0",
-        "new 10 10 10 2147483648 1 3 6 1373 1 0 0",
-        "new 10 10 10 10 5 3 6 1373 1 0 0",
-        "new 10 10 10 10 1 9 6 1373 1 0 0",
-        "new 10 10 10 10 1 3 0 1373 1 0 0",
-        "new 10 10 10 10 1 3 65 1373 1 0 0",
+        "new 10 10 10 10 1 3 6 1169 281474976710656 0 0",
+        "new 2147483648 10 10 10 1 3 6 1169 1 0 0",
+        "new 10 10 10 2147483648 1 3 6 1169 1 0 0",
+        "new 10 10 10 10 5 3 6 1169 1 0 0",
+        "new 10 10 10 10 1 9 6 1169 1 0 0",
+        "new 10 10 10 10 1 3 0 1169 1 0 0",
+        "new 10 10 10 10 1 3 65 1169 1 0 0",
         "new 10 10 10 10 1 3 6 58 1 0 0",
         "new 10 10 10 10 1 3 6 1374 1 0 0",
     ] {

@@ -1,11 +1,89 @@
 //! The words of the replay text: what a call, a message and a state are made of, and how each is written.
 use std::fmt;
+use std::net::{Ipv4Addr, Ipv6Addr, SocketAddr, SocketAddrV4, SocketAddrV6};
 
-/// An IPv4 address as one number, ip × 65536 + port.
-pub type Address = u64;
+/// A family, 128 bits as two numbers, and a port.
+#[derive(Clone, Copy, Debug, PartialEq, Eq, Hash, PartialOrd, Ord)]
+pub struct Address {
+    pub family: u8,
+    pub high: u64,
+    pub low: u64,
+    pub port: u16,
+}
 
-/// Every address of the domain is below this.
-pub const ADDRESS_LIMIT: Address = 1 << 48;
+/// Every address of IPv4, as ip × 65536 + port, is below this.
+pub const ADDRESS_LIMIT: u64 = 1 << 48;
+
+impl Address {
+    /// IPv4, as one number.
+    pub const fn four(number: u64) -> Self {
+        let (low, port) = (number >> 16, number as u16);
+        Self { family: 4, high: 0, low, port }
+    }
+
+    pub fn six(bits: u128, port: u16) -> Self {
+        let (high, low) = ((bits >> 64) as u64, bits as u64);
+        Self { family: 6, high, low, port }
+    }
+
+    /// The one number that says it, if one does.
+    fn numbered(self) -> Option<u64> {
+        let one = self.family == 4 && self.high == 0 && self.low < ADDRESS_LIMIT;
+        one.then(|| self.low << 16 | u64::from(self.port))
+    }
+
+    pub fn in_range(self) -> bool {
+        self.socket().is_some()
+    }
+
+    /// As the standard library has it, if it is in range.
+    pub fn socket(self) -> Option<SocketAddr> {
+        let bits = u128::from(self.high) << 64 | u128::from(self.low);
+        match self.family {
+            4 => {
+                let ip = Ipv4Addr::from(u32::try_from(bits).ok()?);
+                Some(SocketAddr::V4(SocketAddrV4::new(ip, self.port)))
+            }
+            6 => Some(SocketAddr::V6(SocketAddrV6::new(Ipv6Addr::from(bits), self.port, 0, 0))),
+            _ => None,
+        }
+    }
+
+    /// The address of a text that is written as the standard library writes it, with no scope.
+    pub fn of_text(text: &str) -> Option<Self> {
+        let address = match text.parse().ok()? {
+            SocketAddr::V4(parsed) => Self::four(u64::from(u32::from(*parsed.ip())) << 16 | u64::from(parsed.port())),
+            SocketAddr::V6(parsed) => Self::six(u128::from(*parsed.ip()), parsed.port()),
+        };
+        (address.socket()?.to_string() == text).then_some(address)
+    }
+
+    /// The address of a word of the replay text: the shortest form that says it.
+    pub fn of_word(word: &str, number: impl Fn(&str) -> Option<u64>) -> Option<Self> {
+        let parts: Option<Vec<u64>> = word.split('.').map(number).collect();
+        let address = match parts?[..] {
+            [one] => Self::four(one),
+            [high, low, port] => Self { family: 6, high, low, port: port.try_into().ok()? },
+            [family, high, low, port] => {
+                let (family, port) = (family.try_into().ok()?, port.try_into().ok()?);
+                Self { family, high, low, port }
+            }
+            _ => return None,
+        };
+        (address.to_string() == word).then_some(address)
+    }
+}
+
+impl fmt::Display for Address {
+    fn fmt(&self, f: &mut fmt::Formatter) -> fmt::Result {
+        let Self { family, high, low, port } = self;
+        match (self.numbered(), family) {
+            (Some(number), _) => write!(f, "{number}"),
+            (None, 6) => write!(f, "{high}.{low}.{port}"),
+            (None, _) => write!(f, "{family}.{high}.{low}.{port}"),
+        }
+    }
+}
 
 #[derive(Clone, Copy, Debug, PartialEq, Eq, Hash)]
 pub enum Kind {

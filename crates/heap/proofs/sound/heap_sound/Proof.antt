@@ -15,10 +15,10 @@ use Rattle.heap.proofs.sound.heap_sound.Statement.{statement}
 use Rattle.heap.proofs.sound.heap_sound.Tie as tie
 
 abbrev Inv-loop : tie.InvT-loop
-Inv-loop kind own len es known i₀ i = (i ≤ 128) × (length es ≡ 128) × (allBelow (place kind (rowOver len es)) i ≡ true)
+Inv-loop kind len es known i₀ i = (i ≤ 128) × (length es ≡ 128) × (allBelow (place kind (rowOver len es)) i ≡ true)
 
 abbrev μ-loop : tie.MeasureT-loop
-μ-loop kind own len es known i₀ i = 128 - i
+μ-loop kind len es known i₀ i = 128 - i
 
 returns : tie.Need-returns Inv-loop μ-loop
 unfolding soundHeap

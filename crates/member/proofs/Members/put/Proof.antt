@@ -37,7 +37,7 @@ used c = omega (arith, c .if1 .left, c .before .pre .3)
 
 -- where the place was tested, before the lamp of what was held
 abbrev tested : tie.After-light → tie.Else1
-tested c = c .before .before .before .before
+tested c = c .before .before .before .before .before
 
 was-held : (c : tie.After-light)
     → c .light .result
@@ -48,14 +48,14 @@ was-held c =
 
 minus-requires : tie.Need-minus-requires
 minus-requires c κs =
-    let e = c .before .before .before .before in
+    let e = c .before .before .before .before .before in
     let s = e .before in
     held-counted (s .args .self) (s .pre .0 .packed) (s .args .member .addr) (s .args .held .place) (place-of (s .pre .2)) (used e) (s .args .own) (c .light .result) (s .pre .1) (was-held c)
 
 plus-requires : tie.Need-plus-requires
 plus-requires c κs =
     let n = c .before in
-    let s = n .before .before .before .before .before .before in
+    let s = n .before .before .before .before .before .before .before in
     let m = s .args .self in
     let f = few-lamps (s .args .own) (viewMembers m .table) (m .lamps) (omega (arith, view-many m (s .pre .0 .packed), s .pre .0 .packed .few)) (s .pre .1 .lamps) in
     lamps-room (s .args .own) (s .args .member .addr) (s .args .member .state) (n .minus .result) (c .light2 .result) (fewer-lamps (m .lamps) _ (n .minus .result) f (n .minus .ensures)) (c .light2 .ensures)
@@ -64,7 +64,7 @@ returns-2 : tie.Need-returns-2
 returns-2 c =
     let l = c .before .before .before in
     let g = l .before .before .before in
-    let e = g .before in
+    let e = g .before .before in
     let s = e .before in
     let m = s .args .self in
     let k = s .args .member in

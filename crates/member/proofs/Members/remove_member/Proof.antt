@@ -29,26 +29,26 @@ returns c =
 
 find-place-requires : tie.Need-find-place-requires
 find-place-requires c κs =
-    let s = c .before .before .before .before .before .before .before in
-    (s .pre .0 .packed .few, order-long (s .args .self) (s .pre .0 .packed))
+    let s = c .before .before .before .before .before .before in
+    s .pre .0 .packed .few
 
 close-up-requires : tie.Need-close-up-requires
 close-up-requires c κs =
-    let e = c .before .before .before .before .before in
+    let e = c .before .before .before .before in
     let s = e .before .before .before in
     (s .pre .0 .packed .few, used e, table-long (s .args .self) (s .pre .0 .packed))
 
 remove-requires : tie.Need-remove-requires
 remove-requires c κs =
     let p = c .before in
-    let e = p .before .before .before .before .before in
+    let e = p .before .before .before .before in
     let f = e .before .before in
     let s = f .before in
     (s .pre .0 .packed .few, order-place (s .args .own) (s .args .self) (s .pre .0) (s .pre .1) (s .args .a) (f .find .result .place) (at f) (p .find-place .result) (p .find-place .ensures .0) (used e))
 
 -- where its place was tested, before its lamp
 abbrev tested : tie.After-light → tie.Else1
-tested c = c .before .before .before .before .before .before .before .before .before
+tested c = c .before .before .before .before .before .before .before .before
 
 -- the lamp of what was held
 was-held : (c : tie.After-light)
@@ -70,7 +70,7 @@ returns-2 c =
     let l = c .before in
     let w = l .before in
     let p = w .before .before .before in
-    let e = p .before .before .before .before .before in
+    let e = p .before .before .before .before in
     let f = e .before .before in
     let s = f .before in
     ap (λ (x : Lamps). record { table = w .before .before .close-up .result; len = s .args .self .len - 1; order = record { row = w .before .remove .result; position = w .position-after .result }; lamps = x }) (c .minus .ensures)

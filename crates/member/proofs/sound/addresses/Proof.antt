@@ -32,8 +32,8 @@ full n z l e =
 
 loop-again : tie.Need-loop-again Inv-loop μ-loop
 loop-again c =
-    let a = c .before .before .before .before .args in
-    let l = c .before .before .loop in
+    let a = c .before .before .before .before .before .args in
+    let l = c .before .before .before .loop in
     let L : List Addr = map addrOf (a .t1) in
     let hl : length (a .t1) ≡ 64 = search needs in
     let n : length L ≡ 64 = length-map (a .t1) addrOf ∙ hl in

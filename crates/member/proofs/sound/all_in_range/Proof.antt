@@ -23,10 +23,10 @@ loop-holds c =
     test-first (here .valid) (c .args .t1) (c .args .n) (omega arith)
 
 returns : tie.Need-returns Inv-loop μ-loop
-returns c = let l = c .before .before .before .loop in test-fails (here .blank) (l .inv) _ (omega arith) (c .before .in-range .ensures) (c .if1 .taken)
+returns c = let l = c .before .before .before .before .loop in test-fails (here .blank) (l .inv) _ (omega arith) (c .before .in-range .ensures) (c .if1 .taken)
 
 loop-again : tie.Need-loop-again Inv-loop μ-loop
-loop-again c = let l = c .before .before .before .loop in test-next (here .blank) (l .inv) _ (omega arith) (c .before .in-range .ensures) (c .if1 .left)
+loop-again c = let l = c .before .before .before .before .loop in test-next (here .blank) (l .inv) _ (omega arith) (c .before .in-range .ensures) (c .if1 .left)
 
 pub all-in-range-spec : {M : Type 1} → statement M
 all-in-range-spec =

@@ -20,83 +20,83 @@ record Found (row order : List Addr) (n : ℕ) (marks : List Bool) (i : ℕ) : T
   marked : Marked (here .same) (here-lawful .test) (take n order) (take n row) marks i
 
 abbrev Inv-loop : tie.InvT-loop
-Inv-loop n row order firsts marks₀ i₀ marks i = Found row order n marks i
+Inv-loop order n row firsts marks₀ i₀ marks i = Found row order n marks i
 
 abbrev μ-loop : tie.MeasureT-loop
-μ-loop n row order firsts marks₀ i₀ marks i = n - i
+μ-loop order n row firsts marks₀ i₀ marks i = n - i
 
 loop-holds : tie.Need-loop-holds Inv-loop μ-loop
 loop-holds c =
-    let a = c .before .before .args in
-    let ho : length (a .t2) ≡ 64 = search needs in
-    let lo : length (take (a .n) (a .t2)) ≡ a .n = length-take-le (a .n) (a .t2) (omega arith) in
+    let a = c .before .args in
+    let ho : length (a .order) ≡ 64 = search needs in
+    let lo : length (take (a .n) (a .order)) ≡ a .n = length-take-le (a .n) (a .order) (omega arith) in
     record {
       few = omega arith;
       long = refl;
-      marked = mark-start (here .same) (here-lawful .test) (take (a .n) (a .t2)) (take (a .n) (a .t1)) _ (λ p h. getD-replicate 64 p false false (omega (arith, c .before .before .pre)));
+      marked = mark-start (here .same) (here-lawful .test) (take (a .n) (a .order)) (take (a .n) (a .t1)) _ (λ p h. getD-replicate 64 p false false (omega (arith, c .before .pre)));
     }
 
 -- what is known where a place was sought
 module _ (c : tie.After-seek Inv-loop μ-loop) where
-  long-order : length (take (c .before .before .before .before .before .before .before .args .n) (c .before .before .before .before .before .before .before .args .t2)) ≡ c .before .before .before .before .before .before .before .args .n
+  long-order : length (take (c .before .before .before .before .before .before .args .n) (c .before .before .before .before .before .before .args .order)) ≡ c .before .before .before .before .before .before .args .n
   long-order =
-      let a = c .before .before .before .before .before .before .before .args in
-      let h : length (a .t2) ≡ 64 = search needs in
-      length-take-le (a .n) (a .t2) (omega arith)
+      let a = c .before .before .before .before .before .before .args in
+      let h : length (a .order) ≡ 64 = search needs in
+      length-take-le (a .n) (a .order) (omega arith)
 
-  long-row : length (take (c .before .before .before .before .before .before .before .args .n) (c .before .before .before .before .before .before .before .args .t1)) ≡ c .before .before .before .before .before .before .before .args .n
+  long-row : length (take (c .before .before .before .before .before .before .args .n) (c .before .before .before .before .before .before .args .t1)) ≡ c .before .before .before .before .before .before .args .n
   long-row =
-      let a = c .before .before .before .before .before .before .before .args in
+      let a = c .before .before .before .before .before .before .args in
       let h : length (a .t1) ≡ 64 = search needs in
       length-take-le (a .n) (a .t1) (omega arith)
 
-  sought : placeOf (here .same) (getD (take (c .before .before .before .before .before .before .before .args .n) (c .before .before .before .before .before .before .before .args .t1)) (c .before .before .before .before .loop .i) (here .blank))
-      (take (c .before .before .before .before .before .before .before .args .n) (c .before .before .before .before .before .before .before .args .t2))
+  sought : placeOf (here .same) (getD (take (c .before .before .before .before .before .before .args .n) (c .before .before .before .before .before .before .args .t1)) (c .before .before .before .before .loop .i) (here .blank))
+      (take (c .before .before .before .before .before .before .args .n) (c .before .before .before .before .before .before .args .order))
       ≡ c .seek .result
   sought =
-      let a = c .before .before .before .before .before .before .before .args in
-      ap (λ (x : Addr). placeOf (here .same) x (take (a .n) (a .t2))) (getD-take (a .n) (a .t1) (c .before .before .before .before .loop .i) (here .blank) (omega arith)) ∙ sym (c .seek .ensures .0)
+      let a = c .before .before .before .before .before .before .args in
+      ap (λ (x : Addr). placeOf (here .same) x (take (a .n) (a .order))) (getD-take (a .n) (a .t1) (c .before .before .before .before .loop .i) (here .blank) (omega arith)) ∙ sym (c .seek .ensures .0)
 
 returns : tie.Need-returns Inv-loop μ-loop
 returns c =
     let f = c .before in
-    let a = f .before .before .before .before .before .before .before .args in
-    mark-absent (here .same) (here-lawful .test) (here .blank) (take (a .n) (a .t2)) (take (a .n) (a .t1)) (f .before .before .before .before .loop .i) (omega (arith, long-row f))
+    let a = f .before .before .before .before .before .before .args in
+    mark-absent (here .same) (here-lawful .test) (here .blank) (take (a .n) (a .order)) (take (a .n) (a .t1)) (f .before .before .before .before .loop .i) (omega (arith, long-row f))
     (sought f ∙ c .if1 .taken ∙ sym (long-order f))
 
 returns-2 : tie.Need-returns-2 Inv-loop μ-loop
 returns-2 c =
     let f = c .before .before in
-    let a = f .before .before .before .before .before .before .before .args in
+    let a = f .before .before .before .before .before .before .args in
     let l = f .before .before .before .before .loop in
-    mark-again (here .same) (here-lawful .test) (here .blank) (take (a .n) (a .t2)) (take (a .n) (a .t1)) (l .marks) (l .i) (l .inv .marked) (omega (arith, long-row f))
+    mark-again (here .same) (here-lawful .test) (here .blank) (take (a .n) (a .order)) (take (a .n) (a .t1)) (l .marks) (l .i) (l .inv .marked) (omega (arith, long-row f))
     (omega (arith, sought f, long-order f, f .seek .ensures .1, c .before .if1 .left)) (ap (λ (p : ℕ). getD (l .marks) p false) (sought f) ∙ c .if2 .taken)
 
 loop-again : tie.Need-loop-again Inv-loop μ-loop
 loop-again c =
     let f = c .before .before in
-    let a = f .before .before .before .before .before .before .before .args in
+    let a = f .before .before .before .before .before .before .args in
     let l = f .before .before .before .before .loop in
     record {
       few = omega arith;
       long = length-set (l .marks) (f .seek .result) true ∙ l .inv .long;
       marked = subst
-          (λ (p : ℕ). Marked (here .same) (here-lawful .test) (take (a .n) (a .t2)) (take (a .n) (a .t1)) (set (l .marks) p true) (l .i + 1))
+          (λ (p : ℕ). Marked (here .same) (here-lawful .test) (take (a .n) (a .order)) (take (a .n) (a .t1)) (set (l .marks) p true) (l .i + 1))
           (sought f)
-          (mark-next (here .same) (here-lawful .test) (here .blank) (take (a .n) (a .t2)) (take (a .n) (a .t1)) (l .marks) (l .i) (l .inv .marked) (omega (arith, long-row f))
-          (omega (arith, long-order f, l .inv .long, f .before .before .before .before .before .before .before .pre))
+          (mark-next (here .same) (here-lawful .test) (here .blank) (take (a .n) (a .order)) (take (a .n) (a .t1)) (l .marks) (l .i) (l .inv .marked) (omega (arith, long-row f))
+          (omega (arith, long-order f, l .inv .long, f .before .before .before .before .before .before .pre))
           (omega (arith, sought f, long-order f, f .seek .ensures .1, c .before .if1 .left)) (ap (λ (p : ℕ). getD (l .marks) p false) (sought f) ∙ c .if2 .left));
     }
 
 returns-3 : tie.Need-returns-3 Inv-loop μ-loop
 returns-3 c =
-    let a = c .before .before .before .before .args in
+    let a = c .before .before .before .args in
     let l = c .before .loop in
-    let ho : length (a .t2) ≡ 64 = search needs in
+    let ho : length (a .order) ≡ 64 = search needs in
     let hr : length (a .t1) ≡ 64 = search needs in
-    let lo : length (take (a .n) (a .t2)) ≡ a .n = length-take-le (a .n) (a .t2) (omega arith) in
+    let lo : length (take (a .n) (a .order)) ≡ a .n = length-take-le (a .n) (a .order) (omega arith) in
     let lr : length (take (a .n) (a .t1)) ≡ a .n = length-take-le (a .n) (a .t1) (omega arith) in
-    mark-end (here .same) (here-lawful .test) (take (a .n) (a .t2)) (take (a .n) (a .t1)) (l .marks) (l .i) (l .inv .marked) (omega arith) (omega arith)
+    mark-end (here .same) (here-lawful .test) (take (a .n) (a .order)) (take (a .n) (a .t1)) (l .marks) (l .i) (l .inv .marked) (omega arith) (omega arith)
 
 pub matches-spec : {M : Type 1} → statement M
 matches-spec =

@@ -25,16 +25,16 @@ loop-holds c =
     (c .blank .ensures, test-from blankAddress (a .t1) 64 (a .n) long (omega arith))
 
 -- what the test of a place gave
-tested : (c : tie.After-same Inv-loop μ-loop) → c .same .result ≡ blankAddress (getD (c .before .before .before .before .args .t1) (c .before .before .loop .i) (here .blank))
-tested c = let l = c .before .before in c .same .ensures ∙ ap (here .same (getD (l .before .before .args .t1) (l .loop .i) (here .blank))) (l .loop .inv .0)
+tested : (c : tie.After-same Inv-loop μ-loop) → c .same .result ≡ blankAddress (getD (c .before .before .before .before .before .args .t1) (c .before .before .before .loop .i) (here .blank))
+tested c = let l = c .before .before .before in c .same .ensures ∙ ap (here .same (getD (l .before .before .args .t1) (l .loop .i) (here .blank))) (l .loop .inv .0)
 
 returns : tie.Need-returns Inv-loop μ-loop
-returns c = let t = c .before in test-fails (here .blank) (t .before .before .loop .inv .1) _ (omega arith) (tested t) (c .if1 .taken)
+returns c = let t = c .before in test-fails (here .blank) (t .before .before .before .loop .inv .1) _ (omega arith) (tested t) (c .if1 .taken)
 
 loop-again : tie.Need-loop-again Inv-loop μ-loop
 loop-again c =
     let t = c .before in
-    let l = t .before .before .loop in
+    let l = t .before .before .before .loop in
     (l .inv .0, test-next (here .blank) (l .inv .1) _ (omega arith) (tested t) (c .if1 .left))
 
 pub order-ends-spec : {M : Type 1} → statement M

@@ -13,7 +13,7 @@ returns-2 : tie.Need-returns-2
 returns-2 c =
     let s = c .before .before .before .before .before .before in
     let a = s .args in
-    (first-found (a .order .now) (a .n) (a .firsts .now) (a .a) _ (s .pre .2) (omega arith) (ap (λ (k : ℕ). getD (a .firsts .now) k 0) (c .before .before .before .before .before .drawer .ensures .0)) (omega arith) (sym (c .before .same .ensures) ∙ c .if2 .taken), omega arith)
+    (first-found (a .t1) (a .n) (a .firsts .now) (a .a) _ (s .pre .1) (omega arith) (ap (λ (k : ℕ). getD (a .firsts .now) k 0) (c .before .before .before .before .before .drawer .ensures .0)) (omega arith) (sym (c .before .same .ensures) ∙ c .if2 .taken), omega arith)
 
 pub seek-spec : {M : Type 1} → statement M
 seek-spec =

@@ -228,7 +228,7 @@ loop-again c =
 
 returns-3 : tie.Need-returns-3 Inv-loop μ-loop
 returns-3 c =
-    let e = c .before .before .before in
+    let e = c .before .before .before .before in
     let at = e .before .before .loop in
     let s = e .before .before .before .before .before .before .before .before in
     let a = s .args in

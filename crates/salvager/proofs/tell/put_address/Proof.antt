@@ -1,4 +1,4 @@
--- `tell::put_address` is safe: the text of an address has 21 bytes at most.
+-- `tell::put_address` is safe: the text of an address has 47 bytes at most.
 -- Assumes nothing.
 use native.Mathlib.Omega.{arith}
 use borrow.Author.Needs.{needs}

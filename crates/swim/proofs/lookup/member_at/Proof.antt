@@ -53,9 +53,9 @@ member-requires c κs =
 returns-3 : tie.Need-returns-3
 unfolding viewNode
 returns-3 c =
-    let e = c .before .before .before .before in
+    let e = c .before .before .before .before .before in
     let a = e .before .before .before .args in
-    ap (λ (m : Member). listedAs (toMember m)) (c .member .ensures) ∙ at-listed (a .node) (sound-there e) (a .place) (below-there (c .before))
+    ap (λ (m : Member). listedAs (toMember m)) (c .before .member .ensures) ∙ at-listed (a .node) (sound-there e) (a .place) (below-there (c .before .before))
 
 pub member-at-spec : {M : Type 1} → statement M
 member-at-spec =

@@ -1,9 +1,10 @@
 //! The verb `bytes`: a script of `read` and `write` lines with every kind of datagram and message that may come up;
 //! the same seed gives the same script.
+pub mod addresses;
 mod fields;
 mod packets;
 mod spoil;
-mod texts;
+pub mod texts;
 
 use std::io::{self, Write};
 

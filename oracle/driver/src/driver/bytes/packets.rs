@@ -62,8 +62,21 @@ fn gossip(rng: &mut Rng, count: u64, large: u64) -> Gossips {
 
 fn address(rng: &mut Rng, large: u64) -> Address {
     match rng.chance(large) {
-        true => *rng.pick(&[ADDRESS_LIMIT, ADDRESS_LIMIT + 1, u64::MAX, 1 << 63]),
+        true => match rng.below(3) {
+            0 => out_of_range(rng),
+            _ => Address::four(*rng.pick(&[ADDRESS_LIMIT, ADDRESS_LIMIT + 1, u64::MAX, 1 << 63])),
+        },
         false => texts::address(rng),
+    }
+}
+
+/// Of another family, or of IPv4 with more than 32 bits.
+fn out_of_range(rng: &mut Rng) -> Address {
+    let (high, low, port) = (rng.below(2), rng.next(), rng.next() as u16);
+    let family = *rng.pick(&[0, 4, 5, 7, 255]);
+    match family {
+        4 => Address { family, high: 1 + high, low, port },
+        _ => Address { family, high, low, port },
     }
 }
 

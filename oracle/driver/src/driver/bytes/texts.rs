@@ -53,13 +53,34 @@ const NO_TEXT: [&[u8]; 12] = [
     b"\xf8\x88\x80\x80\x80",
 ];
 
+/// Of either family.
 pub fn address(rng: &mut Rng) -> Address {
-    match rng.below(4) {
+    if rng.chance(50) {
+        return six(rng);
+    }
+    Address::four(match rng.below(4) {
         0 => rng.below(300),
         1 => rng.below(1 << 20) << rng.below(28),
         2 => *rng.pick(&[0, 1, 65535, 65536, ADDRESS_LIMIT - 1, 655_360_007_000]),
         _ => rng.below(ADDRESS_LIMIT),
-    }
+    })
+}
+
+/// IPv6 with runs of zero groups of every place and length, mapped, compatible, or any.
+pub fn six(rng: &mut Rng) -> Address {
+    let any = u128::from(rng.next()) << 64 | u128::from(rng.next());
+    let kept = rng.below(256);
+    let mask: u128 = (0..8).filter(|place| kept >> place & 1 == 1).map(|place| 65535 << (16 * place)).sum();
+    let bits = match rng.below(8) {
+        0 => any & 0xffff_ffff | 0xffff_0000_0000,
+        1 => any & 0xffff_ffff,
+        2 => any & mask & 0x000f_00ff_0fff_ffff_000f_00ff_0fff_ffff,
+        3 => *rng.pick(&[0, 1, u128::MAX, 0xffff_ffff_ffff, 0xffff_0000_0000]),
+        4 => any,
+        _ => any & mask,
+    };
+    let port = *rng.pick(&[0, 9, 10, 7000, 65535, any as u16]);
+    Address::six(bits, port)
 }
 
 pub fn canonical(rng: &mut Rng) -> Vec<u8> {

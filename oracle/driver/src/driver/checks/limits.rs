@@ -45,7 +45,7 @@ fn by_float(num_members: usize, max_send_constant: usize) -> u64 {
 
 /// How often the published code sends one event before it drops it.
 fn sends_until_removed(members: usize, constant: usize) -> u64 {
-    let disseminator = Disseminator::new(2, 1373, constant);
+    let disseminator = Disseminator::new(2, 1169, constant);
     let event = Event::new_node_joined("0.0.0.0:0", "0.0.0.0:1", 0);
     finish(disseminator.push(DisseminatorUpdate::NodesAlive(event)));
     let mut sends = 0;

@@ -1,6 +1,7 @@
 //! `sizes N`: the size rule of a gossip against prost's `encoded_len`.
 use prost::Message;
 
+use crate::driver::bytes::texts;
 use crate::driver::convert;
 use crate::driver::rng::Rng;
 use crate::driver::words::{Address, Kind, Record, ADDRESS_LIMIT};
@@ -39,7 +40,7 @@ pub fn check(count: u64) -> bool {
         "sizes: {} compared with encoded_len ({edges} at the edges, {count} random), from {} to {}, {} differences",
         tally.compared, tally.least, tally.most, tally.differences
     );
-    tally.differences == 0 && tally.least == 24 && tally.most == 59
+    tally.differences == 0 && tally.least == 18 && tally.most == 111
 }
 
 struct Tally {
@@ -91,19 +92,22 @@ fn varint_length(number: u64) -> usize {
     (number.max(1).ilog2() / 7 + 1) as usize
 }
 
-/// Four bytes of the ip and the port in decimal, three dots and a colon.
+/// Of IPv4 four bytes of the ip and the port in decimal, three dots and a colon; of IPv6 what the standard library writes.
 fn text_length(address: Address) -> usize {
-    let ip = address >> 16;
+    if address.family == 6 {
+        return convert::text(address).len();
+    }
+    let ip = address.low;
     let bytes = [ip >> 24 & 255, ip >> 16 & 255, ip >> 8 & 255, ip & 255];
     let ip_digits: usize = bytes.iter().map(|byte| digits(*byte)).sum();
-    ip_digits + 4 + digits(address & 65535)
+    ip_digits + 4 + digits(u64::from(address.port))
 }
 
 fn digits(number: u64) -> usize {
     (number.max(1).ilog10() + 1) as usize
 }
 
-/// The shortest, the longest, and both sides of every change of length in the ip's bytes and the port.
+/// Of each family the shortest and the longest; of IPv4 both sides of every change of length in the ip's bytes and the port.
 fn edge_addresses() -> Vec<Address> {
     let mut found = vec![0, ADDRESS_LIMIT - 1];
     for port in [9, 10, 99, 100, 999, 1000, 9999, 10000, 65535] {
@@ -114,7 +118,9 @@ fn edge_addresses() -> Vec<Address> {
             found.push(byte << (16 + 8 * place));
         }
     }
-    found
+    let sixes = [(0, 0), (u128::MAX, 65535), (0xffff_0000_0000, 0), (0xffff_ffff_ffff, 65535), (1, 9)];
+    let four = found.into_iter().map(Address::four);
+    four.chain(sixes.map(|(bits, port)| Address::six(bits, port))).collect()
 }
 
 /// Both sides of every change of a varint's length.
@@ -137,13 +143,16 @@ fn random_record(rng: &mut Rng) -> Record {
 
 /// Each part is shortened at random, so that every text length comes up.
 fn random_address(rng: &mut Rng) -> Address {
+    if rng.chance(50) {
+        return texts::six(rng);
+    }
     let mut address = 0;
     for _ in 0..4 {
         let limit = *rng.pick(&[10, 100, 256]);
         address = (address << 8) | rng.below(limit);
     }
     let limit = *rng.pick(&[10, 100, 1000, 10000, 65536]);
-    (address << 16) | rng.below(limit)
+    Address::four((address << 16) | rng.below(limit))
 }
 
 fn random_number(rng: &mut Rng) -> u64 {

@@ -1,6 +1,7 @@
 //! The world around one generated node: its settings, the peers that may come up, and the numbers they are given.
 use crate::driver::rng::Rng;
 use crate::driver::script::{Creation, Settings};
+use crate::driver::bytes::texts;
 use crate::driver::words::{Address, Peer, ADDRESS_LIMIT};
 
 pub struct World {
@@ -72,7 +73,7 @@ fn pool(rng: &mut Rng, size: usize) -> Vec<Address> {
     let mut pool = Vec::new();
     while pool.len() < size {
         let address = match short {
-            true => rng.between(1, 200),
+            true => Address::four(rng.between(1, 200)),
             false => any_address(rng),
         };
         if !pool.contains(&address) {
@@ -82,13 +83,17 @@ fn pool(rng: &mut Rng, size: usize) -> Vec<Address> {
     pool
 }
 
+/// Of either family.
 fn any_address(rng: &mut Rng) -> Address {
-    match rng.below(10) {
+    if rng.chance(50) {
+        return texts::six(rng);
+    }
+    Address::four(match rng.below(10) {
         0 => rng.below(2),
         1 => ADDRESS_LIMIT - 1 - rng.below(2),
         2..=5 => (10 << 24 | rng.below(256)) << 16 | 7000,
         _ => rng.below(ADDRESS_LIMIT),
-    }
+    })
 }
 
 fn near_an_edge(rng: &mut Rng) -> u64 {
@@ -108,7 +113,7 @@ fn settings(rng: &mut Rng) -> Settings {
         group: rng.below(5) as u32,
         send_constant: *rng.pick(&[0, 1, 2, 3, 3, 4, 5, 6, 7, 8, 8]),
         max_selected: either_or(rng, &[1, 2, 3, 6, 64], (1, 64)),
-        max_size: either_or(rng, &[59, 60, 118, 1373, 1373, 1373], (59, 1373)),
+        max_size: either_or(rng, &[111, 112, 222, 1169, 1169, 1169], (111, 1169)),
     }
 }
 
@@ -116,7 +121,7 @@ fn crowded_settings(rng: &mut Rng) -> Settings {
     Settings {
         send_constant: 8,
         max_selected: rng.between(32, 64) as u32,
-        max_size: 1373,
+        max_size: 1169,
         ..settings(rng)
     }
 }
