@@ -32,7 +32,7 @@ use Rattle.node.specs.Views.{viewNode, packNode}
 use Rattle.node.specs.Rows.{Ready, ready-pack, view-pack}
 use Rattle.message.specs.declared.gossip.Lent.{Lent}
 use Rattle.message.specs.Views.{Heeded, recordsOf}
-use Rattle.message.specs.Hearing.{records-long}
+use Rattle.message.specs.Hearing.{prepend-nil, records-long}
 use Rattle.accounts.specs.declared.Change.{Change}
 use Rattle.accounts.specs.declared.Account.{Account}
 use Rattle.accounts.specs.declared.Turn.{Turn}
@@ -81,11 +81,7 @@ left-is ds rest (leaves u h e) =
 -- a rule of the sender alone
 one-sender : (a : Addr) (n : Node) (ds : List ℕ) → ruleOf (onlySender a) n ds ≡ handler.admit here a (viewNode n) ds
 unfolding M.andMore M.quiet
-one-sender a n ds = back (handler.admit here a (viewNode n) ds)
-  where
-    back : (x : Answer (M.Out Addr)) → andThen x (λ o rest. done (record { node = o .node; said = [] ++ o .said }) rest) ≡ x
-    back (refused r) = refl
-    back (done o rest) = refl
+one-sender a n ds = prepend-nil (handler.admit here a (viewNode n) ds)
 
 pub sender-heeded : (a : Addr) → here .valid a ≡ true → (l : Lent) → l ≡ onlySender a → Heeded (l .rows) (l .given) × (calls.validOption here (toOptional (l .sender)) ≡ true)
 sender-heeded a v l e = rw e (record { long = length-replicate 64 noGossip; few = omega arith; valid = refl }, v)

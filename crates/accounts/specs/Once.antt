@@ -84,10 +84,10 @@ module _ (n : Node) (full : FullRows (storedView n)) (b : Addr) (k : ℕ) (ds : 
 
   -- what the list's own rule gives
   abbrev joined : Answer (list.Members Addr) → calls.Outcome Addr
-  joined x = calls.kept here s ds (andThen x λ m rest. done (record { node = M.withMembers t m; messages = []; events = [] }) rest)
+  joined x = calls.kept here s ds (andThen x λ m rest. done (record { node = M.withMembers t m; messages = []; events = []; collected = 0 }) rest)
 
   abbrev tracedBy : calls.Outcome Addr → Answer (list.Members Addr) → List (Moment Addr)
-  tracedBy o x = momentsBy here (o .reply) (moment (Added b k) t (andThen x λ m rest. done (record { node = M.withMembers t m; said = [] }) rest)) (silent (Added b k) t t)
+  tracedBy o x = momentsBy here (o .reply) (moment (Added b k) t (andThen x λ m rest. done (record { node = M.withMembers t m; said = []; collected = 0 }) rest)) (silent (Added b k) t t)
 
   pub add-idle : hasRun (out .reply) ≡ false → changes (moments here (Add b k ds) (resting n)) ≡ []
   unfolding calls.addPeer
@@ -112,7 +112,7 @@ module _ (n : Node) (full : FullRows (storedView n)) (b : Addr) (k : ℕ) (ds : 
     already-once e =
         record {
           deed = Added b k;
-          out = record { node = t; said = [] };
+          out = record { node = t; said = []; collected = 0 };
           is = refl;
           place = λ c. refl;
           whose = refl;
@@ -122,13 +122,13 @@ module _ (n : Node) (full : FullRows (storedView n)) (b : Addr) (k : ℕ) (ds : 
           did = already-did here here-lawful b b k t (good .whole) e;
         }
 
-    joined-once : (x : Answer (list.Members Addr)) → After (λ m. Keeps here t (M.withMembers t m)) x → After (λ m. Did here b t (Added b k) (record { node = M.withMembers t m; said = [] })) x
+    joined-once : (x : Answer (list.Members Addr)) → After (λ m. Keeps here t (M.withMembers t m)) x → After (λ m. Did here b t (Added b k) (record { node = M.withMembers t m; said = []; collected = 0 })) x
         → hasRun (joined x .reply) ≡ true → Once t (unstored (joined x .node)) (tracedBy (joined x) x) b k
     joined-once (refused u) g f e = let z : _≡_ {A = ℕ} 0 1 = ap one e in absurd (omega arith)
     joined-once (done m rest) (gives g) (gives f) e =
         record {
           deed = Added b k;
-          out = record { node = M.withMembers t m; said = [] };
+          out = record { node = M.withMembers t m; said = []; collected = 0 };
           is = refl;
           place = λ c. refl;
           whose = refl;

@@ -39,7 +39,7 @@ use Rattle.node.specs.Parts.{ready-is}
 use Rattle.message.specs.declared.gossip.Lent.{Lent}
 use Rattle.message.specs.Views.{Heeded, recordsOf}
 use Rattle.message.specs.Drawn.{list-leaves}
-use Rattle.message.specs.Hearing.{more-quiet, records-long}
+use Rattle.message.specs.Hearing.{prepend, prepend-nil, prepend-more, more-quiet, records-long}
 use Rattle.accounts.specs.declared.Change.{Change}
 use Rattle.accounts.specs.declared.Account.{Account}
 use Rattle.accounts.specs.declared.Turn.{Turn}
@@ -82,18 +82,6 @@ pub item-leaves : (e : W.Event Addr) (s : M.Node Addr) (ds : List ℕ) → Leave
 unfolding handler.item
 item-leaves e s ds = act-leaves _ s ds
 
--- what was said before, and then an answer
-abbrev prepend : List (W.Gossip Addr) → Answer (M.Out Addr) → Answer (M.Out Addr)
-prepend said x = andThen x λ o rest. done (record { node = o .node; said = said ++ o .said }) rest
-
-prepend-nil : (x : Answer (M.Out Addr)) → x ≡ prepend [] x
-prepend-nil (refused r) = refl
-prepend-nil (done o rest) = refl
-
-prepend-more : (said more : List (W.Gossip Addr)) (x : Answer (M.Out Addr)) → prepend said (prepend more x) ≡ prepend (said ++ more) x
-prepend-more said more (refused u) = refl
-prepend-more said more (done o rest) = λ i. done (record { node = o .node; said = sym (append-assoc said more (o .said)) i }) rest
-
 -- how far the records have run: those before i did `front`, and those from i on give the rest
 pub record Going (gs : List (W.Gossip Addr)) (s : M.Node Addr) (ds : List ℕ) (i used : ℕ) (n : Node) (x : Account) : Type 0 where
   pub ready : Ready n
@@ -102,12 +90,13 @@ pub record Going (gs : List (W.Gossip Addr)) (s : M.Node Addr) (ds : List ℕ) (
   pub is : x ≡ accountOf front
   pub long : length front ≡ i
   pub said : List (W.Gossip Addr)
+  pub old : ℕ
   pub seen : changes (traceGossip here gs s ds) ≡ front ++ changes (traceGossip here (drop i gs) (viewNode n) (drop used ds))
-  pub left : handler.gossip here gs s ds ≡ prepend said (handler.gossip here (drop i gs) (viewNode n) (drop used ds))
+  pub left : handler.gossip here gs s ds ≡ prepend said old (handler.gossip here (drop i gs) (viewNode n) (drop used ds))
 
 pub going-start : (gs : List (W.Gossip Addr)) (ds : List ℕ) (n : Node) → Ready n → Going gs (viewNode n) ds 0 0 n (accountOf [])
 going-start gs ds n r =
-    record { ready = r; within = omega arith; front = []; is = refl; long = refl; said = []; seen = refl; left = prepend-nil (handler.gossip here gs (viewNode n) ds) }
+    record { ready = r; within = omega arith; front = []; is = refl; long = refl; said = []; old = 0; seen = refl; left = sym (prepend-nil (handler.gossip here gs (viewNode n) ds)) }
 
 -- a rule that was kept, as the code has it
 pub record Ran (x : Answer (M.Out Addr)) (n : Node) (a : Addr) (k : ℕ) (draws : List ℕ) (used more : ℕ) (t : Turn) : Type 0 where
@@ -158,8 +147,8 @@ module _ (gs : List (W.Gossip Addr)) (s : M.Node Addr) (ds : List ℕ) (i used :
     seen-due : changes (traceGossip here gs s ds) ≡ g .front ++ changes (traceGossip here (due ∷ drop (suc i) gs) (viewNode n) (drop used ds))
     seen-due = g .seen ∙ ap (λ (l : List (W.Gossip Addr)). g .front ++ changes (traceGossip here l (viewNode n) (drop used ds))) (drop-cons gs i W.nothing h)
 
-    left-due : handler.gossip here gs s ds ≡ prepend (g .said) (M.andMore rule (handler.gossip here (drop (suc i) gs)))
-    left-due = g .left ∙ ap (λ (l : List (W.Gossip Addr)). prepend (g .said) (handler.gossip here l (viewNode n) (drop used ds))) (drop-cons gs i W.nothing h)
+    left-due : handler.gossip here gs s ds ≡ prepend (g .said) (g .old) (M.andMore rule (handler.gossip here (drop (suc i) gs)))
+    left-due = g .left ∙ ap (λ (l : List (W.Gossip Addr)). prepend (g .said) (g .old) (handler.gossip here l (viewNode n) (drop used ds))) (drop-cons gs i W.nothing h)
 
     -- what a rule's answer adds to the moments
     abbrev addedBy : Answer (M.Out Addr) → List Change
@@ -169,7 +158,7 @@ module _ (gs : List (W.Gossip Addr)) (s : M.Node Addr) (ds : List ℕ) (i used :
     unfolding M.andMore
     going-refused u e = (
       seen-due ∙ ap (λ (y : Answer (M.Out Addr)). g .front ++ addedBy y) e ∙ append-nil (g .front),
-      left-due ∙ ap (λ (y : Answer (M.Out Addr)). prepend (g .said) (M.andMore y (handler.gossip here (drop (suc i) gs)))) e,
+      left-due ∙ ap (λ (y : Answer (M.Out Addr)). prepend (g .said) (g .old) (M.andMore y (handler.gossip here (drop (suc i) gs)))) e,
     )
 
     pub going-next : (o : M.Out Addr) (rest : List ℕ) (m : Node) (c : Change) (next : ℕ) → rule ≡ done o rest → Good here (o .node) → m ≡ packNode (o .node)
@@ -186,6 +175,7 @@ module _ (gs : List (W.Gossip Addr)) (s : M.Node Addr) (ds : List ℕ) (i used :
           is = ap (λ (y : Account). pushedOf y c) (g .is) ∙ push-is (g .front) c (omega (arith, g .long));
           long = length-append (g .front) (c ∷ []) ∙ omega (arith, g .long);
           said = g .said ++ o .said;
+          old = g .old + o .collected;
           seen =
               seen-due
               ∙ ap (λ (y : Answer (M.Out Addr)). g .front ++ addedBy y) e
@@ -194,9 +184,9 @@ module _ (gs : List (W.Gossip Addr)) (s : M.Node Addr) (ds : List ℕ) (i used :
               ∙ (λ j. (g .front ++ (c ∷ [])) ++ changes (traceGossip here (drop (sym (add-one i) j) gs) (sym back j) (sym on j)));
           left =
               left-due
-              ∙ ap (λ (y : Answer (M.Out Addr)). prepend (g .said) (M.andMore y (handler.gossip here (drop (suc i) gs)))) e
-              ∙ prepend-more (g .said) (o .said) (handler.gossip here (drop (suc i) gs) (o .node) rest)
-              ∙ (λ j. prepend (g .said ++ o .said) (handler.gossip here (drop (sym (add-one i) j) gs) (sym back j) (sym on j)));
+              ∙ ap (λ (y : Answer (M.Out Addr)). prepend (g .said) (g .old) (M.andMore y (handler.gossip here (drop (suc i) gs)))) e
+              ∙ prepend-more (g .said) (o .said) (g .old) (o .collected) (handler.gossip here (drop (suc i) gs) (o .node) rest)
+              ∙ (λ j. prepend (g .said ++ o .said) (g .old + o .collected) (handler.gossip here (drop (sym (add-one i) j) gs) (sym back j) (sym on j)));
         }
 
   -- all have run
@@ -205,8 +195,8 @@ module _ (gs : List (W.Gossip Addr)) (s : M.Node Addr) (ds : List ℕ) (i used :
   going-over h n₀ e =
       let over : drop i gs ≡ [] = drop-of-length-le gs h in
       let seen : changes (traceGossip here gs s ds) ≡ g .front = g .seen ∙ ap (λ (l : List (W.Gossip Addr)). g .front ++ changes (traceGossip here l (viewNode n) (drop used ds))) over ∙ append-nil (g .front) in
-      let left : handler.gossip here gs s ds ≡ done (record { node = viewNode n; said = g .said ++ [] }) (drop used ds) =
-      g .left ∙ ap (λ (l : List (W.Gossip Addr)). prepend (g .said) (handler.gossip here l (viewNode n) (drop used ds))) over in
+      let left : handler.gossip here gs s ds ≡ done (record { node = viewNode n; said = g .said ++ []; collected = g .old + 0 }) (drop used ds) =
+      g .left ∙ ap (λ (l : List (W.Gossip Addr)). prepend (g .said) (g .old) (handler.gossip here l (viewNode n) (drop used ds))) over in
       let us : used ≡ length ds - length (drop used ds) = omega (arith, length-drop used ds, g .within) in
       (λ i. record { node = sym (ready-is n (g .ready)) i; used = us i; «is_whole» = true; account = (g .is ∙ ap accountOf (sym seen)) i })
       ∙ (λ j. walkedTo n₀ ds (changes (traceGossip here gs s ds)) (sym left j))

@@ -57,5 +57,5 @@ module _ (n : Node) (r : Ready n) (w : Wait) (a : Addr) (number tick : ℕ) wher
   declare-draws ds =
       elim (leb 16 (length (viewNode n .timers))) as (λ u. either [] u ≡ either ds u) [
         | true ↦ refl
-        | false ↦ let z : _≡_ {A = ℕ} 0 (length ds - length ds) = omega arith in λ i. record { outcome = record { reply = Done (z i); node = M.stored here started; messages = []; events = [] }; wait = D.enters W.SendingPing tick }
+        | false ↦ let z : _≡_ {A = ℕ} 0 (length ds - length ds) = omega arith in λ i. record { outcome = record { reply = Done (z i); node = M.stored here started; messages = []; events = []; collected = 0 }; wait = D.enters W.SendingPing tick }
       ]

@@ -4,3 +4,4 @@ pub mod Noting
 pub mod Trying
 pub mod Stepping
 pub mod Choosing
+pub mod Sifting

@@ -6,16 +6,16 @@ use mathlib.Core.List.{List, [], _∷_, _++_, map}
 use mathlib.Core.Option.{Option, none, some}
 use Prim.Native.Nat.{ℕ, zero, suc, _+_, _*_, _≤_, _<_}
 use lib.ListN.{length, getD, take, replicate}
-use lib.Dec.{leb}
+use lib.Dec.{eqb, leb}
 use Rattle.model.specs.declared.Kind.{Kind}
 use Rattle.model.specs.declared.Kind.the-variants as kind
 use Rattle.model.specs.Bounds.{greatest-size}
 use Rattle.model.specs.Rows.{pick, padTo}
-use Rattle.model.specs.Answers.{Answer, refused, done}
 use Rattle.address.specs.Here.{Addr, here}
 use Rattle.model.specs.Words as W
 use Rattle.model.specs.Heap.{push}
 use Rattle.model.specs.Choose as M
+use Rattle.model.specs.Collect as C
 use Rattle.model.specs.Node as N
 use Rattle.laws_choose.specs.ChooseLaws.{GoodHeaps, Within}
 use Rattle.types.specs.declared.Gossip.{Gossip}
@@ -25,6 +25,7 @@ use Rattle.heap.specs.declared.Heap.{Heap}
 use Rattle.heap.specs.Views.{noEntry, heapView, packHeap, Packed, pack-view}
 use Rattle.disseminate.specs.declared.Disseminator.{Disseminator}
 use Rattle.disseminate.specs.declared.Grown.{Grown}
+use Rattle.disseminate.specs.declared.collect.Renewed.{Renewed}
 use Rattle.disseminate.specs.declared.Found.{Found}
 use Rattle.disseminate.specs.declared.Found.the-variants.{Missing, At}
 use Rattle.disseminate.specs.declared.Terms.{Terms}
@@ -70,15 +71,27 @@ grown h g =
     (record { heap = h; full = true })
     (record { heap = emitted h g; full = false })
 
--- both heaps after a push, and whether there was no room
-pub record Pushed : Type 0 where
-  pub disseminator : Disseminator
-  pub full : Bool
+-- the alive heap without what an event outdates, or as it came where that is nothing
+abbrev pub clearedBy : ℕ → Kind → W.Gossip Addr → Heap → Heap
+clearedBy old k g h = pick (eqb old 0) h (packHeap (C.rebuilt here k g (heapView h)))
 
--- the heaps after a push that was not refused, or as they came
-abbrev pub heldOr : Disseminator → Answer (N.Disseminator Addr) → Pushed
-heldOr d (refused r) = record { disseminator = d; full = true }
-heldOr d (done x ds) = record { disseminator = packDisseminator x; full = false }
+abbrev pub clearedHeap : Bool → Kind → W.Gossip Addr → Heap → Heap
+clearedHeap on k g h = clearedBy (C.collects here on k g (heapView h)) k g h
+
+-- the alive heap that a gossip was pushed to, and how many were collected for it
+abbrev pub renewed : Bool → W.Gossip Addr → Heap → Renewed
+renewed on g h = record { grown = grown (clearedHeap on kind.Alive g h) g; collected = C.collects here on kind.Alive g (heapView h) }
+
+-- the heaps after a push that finds room, in the rules' words
+abbrev pub pushedTo : Bool → Kind → W.Gossip Addr → N.Disseminator Addr → N.Disseminator Addr
+pushedTo on k g d =
+    let c = N.collecting here on k g d in
+    N.withHeap k (push W.unused W.sendsOf (N.heapOf k c) (M.entryOf here g)) c
+
+-- what the code has of a push: whether there was no room, and else both heaps
+pub record Pushes (on : Bool) (k : Kind) (g : W.Gossip Addr) (d after : Disseminator) (full : Bool) : Type 0 where
+  pub is-full : full ≡ leb 128 (length (N.heapOf k (N.collecting here on k g (viewDisseminator d))))
+  pub is-after : full ≡ false → after ≡ packDisseminator (pushedTo on k g (viewDisseminator d))
 
 abbrev pub fromFound : Option ℕ → Found
 fromFound none = Missing

@@ -1,4 +1,6 @@
 // What goes out with a message: gossip from two heaps, one of the living and one of the dead.
+pub mod collect;
+
 use address::Address;
 use heap::Entry;
 use heap::Heap;
@@ -321,7 +323,7 @@ fn spend_top(h: Heap, given: bool, limit: u64) -> Heap
 
 // One more where a heap gave one.
 fn plus(n: usize, gave: bool) -> usize
-    requires { ⌜ n ≤ 64 ⌝ }
+    requires { ⌜ n ≤ 128 ⌝ }
     ensures { λ r. ⌜ r ≡ n + one gave ⌝ }
 {
     if gave { n + 1 } else { n }

@@ -4,7 +4,7 @@ use mathlib.Core.Path.{_≡_, refl, ap, sym, _∙_, subst}
 use mathlib.Core.Bool.{true, false}
 use mathlib.Core.List.{List, [], _∷_, _++_, append-nil, append-assoc}
 use mathlib.Core.Option.{Option, none, some}
-use Prim.Native.Nat.{ℕ, _<_}
+use Prim.Native.Nat.{ℕ, _+_, _<_}
 use native.Mathlib.Omega.{arith}
 use lib.ListN.{length, getD}
 use borrow.Author.Tests.{not-false}
@@ -109,10 +109,10 @@ module _ {A : Type 0} (address : Address A) where
 
       second : (ms : List (Moment A)) (o : Out A) (x : Answer (Out A)) → Tells s ms (o .node) (o .said) (records gs) → TellsOut (o .node) (moment (Sender from) (o .node) x) (Sender from ∷ []) x
           → TellsEffect s (ms ++ (moment (Sender from) (o .node) x ++ traceThen x (λ s′ rest. traceSpread address s′))) (records gs ++ (Sender from ∷ Other ∷ []))
-          (andThen (andThen x λ p rest₂. done (record { node = p .node; said = o .said ++ p .said }) rest₂) λ q rest. done (f q) rest)
+          (andThen (andThen x λ p rest₂. done (record { node = p .node; said = o .said ++ p .said; collected = o .collected + p .collected }) rest₂) λ q rest. done (f q) rest)
       second ms o _ p halts = halts
       second ms o _ p (gives {b = q} {ds = rest} v) =
-          let z : Out A = record { node = q .node; said = o .said ++ q .said } in
+          let z : Out A = record { node = q .node; said = o .said ++ q .said; collected = o .collected + q .collected } in
           gives (as-said (ap (λ (l : List (Gossip A)). o .said ++ l) (append-nil (q .said)) ∙ sym (h z .1)) (on p (on v (chosen z))))
 
       first : (ms : List (Moment A)) (x : Answer (Out A)) → TellsOut s ms (records gs) x
@@ -196,8 +196,8 @@ module _ {A : Type 0} (address : Address A) (lawful : Lawful address) (s : Node 
   step-passes ds ms (gives {b = e} q) = kept-as (q .0 .good) (q .1)
 
   add-passes : (b : A) (n : ℕ) (ds : List ℕ) {x : Answer (Members A)} → After (λ m. Keeps address seen (withMembers seen m)) x
-      → let o = kept address (stored address s) ds (andThen x λ m rest. done (record { node = withMembers seen m; messages = []; events = [] }) rest) in
-      Passes (momentsBy address (o .reply) (moment (Added b n) seen (andThen x λ m rest. done (record { node = withMembers seen m; said = [] }) rest)) (silent (Added b n) seen seen)) (Added b n ∷ []) o
+      → let o = kept address (stored address s) ds (andThen x λ m rest. done (record { node = withMembers seen m; messages = []; events = []; collected = 0 }) rest) in
+      Passes (momentsBy address (o .reply) (moment (Added b n) seen (andThen x λ m rest. done (record { node = withMembers seen m; said = []; collected = 0 }) rest)) (silent (Added b n) seen seen)) (Added b n ∷ []) o
   add-passes b n ds halts = none-said seen
   add-passes b n ds (gives {b = m} q) = kept-as (q .good) (silently (Added b n) seen (withMembers seen m))
 

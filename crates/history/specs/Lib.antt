@@ -13,3 +13,4 @@ pub mod Next
 pub mod Demand3
 pub mod Auditor
 pub mod Started
+pub mod Taken

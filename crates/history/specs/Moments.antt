@@ -80,4 +80,4 @@ module _ {A : Type 0} (address : Address A) where
   traceTimer i s = moment (endedDeed (getD (s .timers) i (noTimer address))) s (endAt address i s [])
 
   abbrev pub traceAdd : A → ℕ → Node A → List ℕ → List (Moment A)
-  traceAdd a n s ds = moment (Added a n) s (andThen (list.add (address .same) a n (s .members) ds) λ m rest. done (record { node = withMembers s m; said = [] }) rest)
+  traceAdd a n s ds = moment (Added a n) s (andThen (list.add (address .same) a n (s .members) ds) λ m rest. done (record { node = withMembers s m; said = []; collected = 0 }) rest)

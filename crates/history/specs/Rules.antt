@@ -70,16 +70,16 @@ module _ {A : Type 0} (address : Address A) (lawful : Lawful address) (a : A) wh
 
   -- an emitted event changes a heap, and no fact here reads a heap
   emit-did : (k : Kind) (g : Gossip A) (s s′ : Node A) (d : Deed A) (ds : List ℕ)
-      → ((x : Disseminator A) → Did address a s d (record { node = withDisseminator s′ x; said = g ∷ [] }))
+      → ((x : Disseminator A) (n : ℕ) → Did address a s d (record { node = withDisseminator s′ x; said = g ∷ []; collected = n }))
       → Runs s d (emit address k g s′ ds)
   unfolding emit pushed
-  emit-did k g s s′ d ds f = after-then {P = λ _. Unit {0}} (after-when (λ _. halts) (λ _. gives tt)) (λ x rest _. gives (f x))
+  emit-did k g s s′ d ds f = after-then {P = λ _. Unit {0}} (after-when (λ _. halts) (λ _. gives tt)) (λ x rest _. gives (f x _))
 
   -- nothing done and nothing said
   idle : (s : Node A) (d : Deed A) (ds : List ℕ) → Whole (address .same) (s .members) → (lists address a s ≡ true → goes address a d s ≡ false)
       → (lists address a s ≡ false → comes address a d ≡ false) → Runs s d (quiet s ds)
   unfolding quiet
-  idle s d ds w g c = gives (stay address a lawful s d (record { node = s; said = [] }) w refl refl g c (λ _ _. omega arith))
+  idle s d ds w g c = gives (stay address a lawful s d (record { node = s; said = []; collected = 0 }) w refl refl g c (λ _ _. omega arith))
 
   -- what `add` gives: the list with the address at some place
   pub add-gives : (b : A) (n : ℕ) (m : Members A) (ds : List ℕ)
@@ -95,7 +95,7 @@ module _ {A : Type 0} (address : Address A) (lawful : Lawful address) (a : A) wh
   enter-did b n s d ds w f g c =
       after-then (add-gives b n (s .members) ds)
       (λ r rest p. emit-did kind.Alive _ s (withMembers s r) d rest
-      (λ x. came-did address a lawful b n (p .0) s d _ w (p .1) refl f (p .2) g c (said-at b n) (said-off b n)))
+      (λ x _. came-did address a lawful b n (p .0) s d _ w (p .1) refl f (p .2) g c (said-at b n) (said-off b n)))
 
   -- a listed address is given a state and a number
   updated-did : (b : A) (n : ℕ) (st : State) (v : Verdict A) (e : Event A) (s : Node A) (d : Deed A) (ds : List ℕ)
@@ -106,7 +106,7 @@ module _ {A : Type 0} (address : Address A) (lawful : Lawful address) (a : A) wh
   updated-did b n st v e s d ds l u r w g c =
       rw (l, u)
       (emit-did kind.Alive _ s _ d ds
-      (λ x. put-did address a lawful (record { addr = b; state = st; number = n }) (s .members) s d _ w refl refl refl g c
+      (λ x _. put-did address a lawful (record { addr = b; state = st; number = n }) (s .members) s d _ w refl refl refl g c
       (λ q. rw r (said-at b n q))
       (λ q. rw r (said-off b n q))))
 
@@ -141,14 +141,14 @@ module _ {A : Type 0} (address : Address A) (lawful : Lawful address) (a : A) wh
   unfolding act listAfter newsOf
   bury-did f b n s ds w l h =
       emit-did kind.Deceased _ s _ (Told (Deceased f b n)) ds
-      (λ x. gone-did address a lawful b s (Told (Deceased f b n)) _ w refl refl l (departs b (reached n s) (le-leb (numbered address b s) n h)) refl (said-off b n))
+      (λ x _. gone-did address a lawful b s (Told (Deceased f b n)) _ w refl refl l (departs b (reached n s) (le-leb (numbered address b s) n h)) refl (said-off b n))
 
   -- the own address answers a suspicion
   refute-did : (f b : A) (n next : ℕ) (s : Node A) (ds : List ℕ) → Whole (address .same) (s .members) → Runs s (Told (Suspected f b n)) (act address (Refute next) s ds)
   unfolding act listAfter newsOf
   refute-did f b n next s ds w =
       emit-did kind.Alive _ s s (Told (Suspected f b n)) ds
-      (λ x. stay address a lawful s (Told (Suspected f b n)) _ w refl refl (λ _. refl) (λ _. refl)
+      (λ x _. stay address a lawful s (Told (Suspected f b n)) _ w refl refl (λ _. refl) (λ _. refl)
       (λ q _. omega (arith, said-off (s .own) next (same-false (s .own) a q))))
 
   judged-did : (e : Event A) (v : Verdict A) (s : Node A) (x : Option ℕ) (ds : List ℕ) → Whole (address .same) (s .members) → Judged address (s .own) (s .members .table) x e v → Runs s (Told e) (act address v s ds)
@@ -195,10 +195,10 @@ module _ {A : Type 0} (address : Address A) (lawful : Lawful address) (a : A) wh
       let z : reported address a (o .said) ≡ 0 = ap (reported address a) q in
       put-did address a lawful (record { addr = b; state = st; number = n }) x s Other o w t e m refl (λ _. refl) (λ _. omega arith) (λ _. z)
 
-  pub acked-did : (b : A) (s : Node A) → Whole (address .same) (s .members) → Did address a s Other (record { node = acked address b s; said = [] })
+  pub acked-did : (b : A) (s : Node A) → Whole (address .same) (s .members) → Did address a s Other (record { node = acked address b s; said = []; collected = 0 })
   unfolding acked change
   acked-did b s w =
-      elim (lists address b s) as (λ u. Did address a s Other (record { node = pick u (withMembers s (update (address .same) (record { addr = b; state = state.Alive; number = numbered address b s }) (s .members))) s; said = [] })) [
+      elim (lists address b s) as (λ u. Did address a s Other (record { node = pick u (withMembers s (update (address .same) (record { addr = b; state = state.Alive; number = numbered address b s }) (s .members))) s; said = []; collected = 0 })) [
         | true ↦ put-silent b state.Alive (numbered address b s) (s .members) s _ w refl refl refl refl
         | false ↦ stay address a lawful s Other _ w refl refl (λ _. refl) (λ _. refl) (λ _ _. omega arith)
       ]
@@ -208,7 +208,7 @@ module _ {A : Type 0} (address : Address A) (lawful : Lawful address) (a : A) wh
   unfolding suspect change
   suspect-did b n s ds w =
       emit-did kind.Alive _ s _ Other ds
-      (λ _. put-did address a lawful (record { addr = b; state = state.Suspected; number = n }) (s .members) s Other _ w refl refl refl refl (λ _. refl) (said-at b n) (said-off b n))
+      (λ _ _. put-did address a lawful (record { addr = b; state = state.Suspected; number = n }) (s .members) s Other _ w refl refl refl refl (λ _. refl) (said-at b n) (said-off b n))
 
   -- the records stay, the order may have moved, and nothing is said
   pub other-did : (s : Node A) (o : Out A) → Whole (address .same) (o .node .members) → o .node .members .table ≡ s .members .table → o .node .own ≡ s .own → o .said ≡ []
@@ -219,14 +219,14 @@ module _ {A : Type 0} (address : Address A) (lawful : Lawful address) (a : A) wh
   stays-did : (t : Timer A) (ts : List (Timer A)) (s : Node A) (ds : List ℕ) → Whole (address .same) (s .members) → (lists address a s ≡ true → goes address a (endedDeed address t) s ≡ false)
       → Runs s (endedDeed address t) (quiet (withTimers s ts) ds)
   unfolding quiet
-  stays-did t ts s ds w g = gives (stay address a lawful s (endedDeed address t) (record { node = withTimers s ts; said = [] }) w refl refl g (λ _. refl) (λ _ _. omega arith))
+  stays-did t ts s ds w g = gives (stay address a lawful s (endedDeed address t) (record { node = withTimers s ts; said = []; collected = 0 }) w refl refl g (λ _. refl) (λ _ _. omega arith))
 
   fate-did : (t : Timer A) (v : Fate) (ts : List (Timer A)) (s : Node A) (ds : List ℕ) → Whole (address .same) (s .members) → Fated address t (s .members .table) v
       → Runs s (endedDeed address t) (byFate address v t (withTimers s ts) ds)
   unfolding byFate leave
   fate-did t _ ts s ds w (fated-leaves l e h) =
       emit-did kind.Deceased _ s _ (endedDeed address t) ds
-      (λ _. gone-did address a lawful (t .addr) s (endedDeed address t) _ w refl refl l
+      (λ _ _. gone-did address a lawful (t .addr) s (endedDeed address t) _ w refl refl l
       (departs (t .addr) (timedOut (t .number) s) (and-join (ap not e) (le-leb (numbered address (t .addr) s) (t .number) h))) refl (said-off (t .addr) (t .number)))
   fate-did t _ ts s ds w (fated-alive l e) = stays-did t ts s ds w (λ _. spares (t .addr) (timedOut (t .number) s) (rw e refl))
   fate-did t _ ts s ds w (fated-greater l h) =
@@ -238,11 +238,11 @@ module _ {A : Type 0} (address : Address A) (lawful : Lawful address) (a : A) wh
   timer-did i s ds w = fate-did (timerAt address i s) (fateAt address i s) (removeAt (s .timers) i) s ds w (fated address (timerAt address i s) (s .members .table))
 
   pub add-did : (b : A) (n : ℕ) (s : Node A) (ds : List ℕ) → Whole (address .same) (s .members) → lists address b s ≡ false
-      → After (λ m. Did address a s (Added b n) (record { node = withMembers s m; said = [] })) (add (address .same) b n (s .members) ds)
+      → After (λ m. Did address a s (Added b n) (record { node = withMembers s m; said = []; collected = 0 })) (add (address .same) b n (s .members) ds)
   add-did b n s ds w e =
       after-map (λ m p. came-did address a lawful b n (p .0) s (Added b n) _ w (p .1) refl e (p .2) refl refl (λ _. omega arith) (λ _. refl))
       (add-gives b n (s .members) ds)
 
   -- an add of an address that is listed
-  pub already-did : (b : A) (n : ℕ) (s : Node A) → Whole (address .same) (s .members) → lists address b s ≡ true → Did address a s (Added b n) (record { node = s; said = [] })
-  already-did b n s w e = stay address a lawful s (Added b n) (record { node = s; said = [] }) w refl refl (λ _. refl) (apart b s e) (λ _ _. omega arith)
+  pub already-did : (b : A) (n : ℕ) (s : Node A) → Whole (address .same) (s .members) → lists address b s ≡ true → Did address a s (Added b n) (record { node = s; said = []; collected = 0 })
+  already-did b n s w e = stay address a lawful s (Added b n) (record { node = s; said = []; collected = 0 }) w refl refl (λ _. refl) (apart b s e) (λ _ _. omega arith)

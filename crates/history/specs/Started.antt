@@ -246,7 +246,7 @@ module _ {A : Type 0} (address : Address A) (lawful : Lawful address) (s : Node 
   step-follows now ds (gives {b = e} q) = kept-follows (declared address (w .state) now) (e .effect .node) (q .0 .good) (subst (λ (x : List (Timer A)). Within x (seen .timers ++ declared address (w .state) now)) (sym (q .1)) (within-refl _))
 
   add-follows : (b : A) (n : ℕ) (ds : List ℕ) {x : Answer (Members A)} → After (λ m. Keeps address seen (withMembers seen m)) x
-      → Follows [] (calls.kept address (stored address s) ds (andThen x λ m rest. done (record { node = withMembers seen m; messages = []; events = [] }) rest))
+      → Follows [] (calls.kept address (stored address s) ds (andThen x λ m rest. done (record { node = withMembers seen m; messages = []; events = []; collected = 0 }) rest))
   add-follows b n ds halts = stayed []
   add-follows b n ds (gives {b = m} q) = kept-follows [] (withMembers seen m) (q .good) (same-within refl)
 

@@ -3,7 +3,7 @@
 use mathlib.Core.Path.{_≡_, refl}
 use mathlib.Core.List.{List, [], _∷_, _++_}
 use mathlib.Core.Option.{Option, none, some}
-use Prim.Native.Nat.{ℕ}
+use Prim.Native.Nat.{ℕ, _+_}
 use Rattle.model.specs.Answers.{Answer, done, refused, andThen}
 use Rattle.laws.specs.After.{After, halts, gives, after-then, after-map}
 use Rattle.model.specs.Words.{Address, Lawful, Gossip, Action, Ping, PingReq, Ack}
@@ -72,14 +72,14 @@ module _ {A : Type 0} (address : Address A) (a : A) where
   then-more at own t ms k l₁ l₂ halts f g = halts
   then-more at own t ms k l₁ l₂ {k₂} (gives {b = o} {ds = rest} w) f g =
       after-map (λ b v. further own t ms _ w v)
-      (second (o .said) (k (o .node) rest) (l₁ (o .node) rest) (f (o .node) rest (tally address a ms t) (w .kept)))
+      (second (o .said) (o .collected) (k (o .node) rest) (l₁ (o .node) rest) (f (o .node) rest (tally address a ms t) (w .kept)))
     where
-      second : (said : List (Gossip A)) (y : Answer (Out A)) (ns : List (Moment A)) → Walks own (tally address a ms t) ns y
+      second : (said : List (Gossip A)) (old : ℕ) (y : Answer (Out A)) (ns : List (Moment A)) → Walks own (tally address a ms t) ns y
           → After (λ b. Walked own (tally address a ms t) (ns ++ traceThen y l₂) (at b))
-          (andThen (andThen y λ p rest₂. done (record { node = p .node; said = said ++ p .said }) rest₂) k₂)
-      second said (refused r) ns h = halts
-      second said (done p rest₂) ns (gives v) =
-          after-map (λ b u. further own (tally address a ms t) ns (l₂ (p .node) rest₂) v u) (g (record { node = p .node; said = said ++ p .said }) rest₂ (tally address a ns (tally address a ms t)) (v .kept))
+          (andThen (andThen y λ p rest₂. done (record { node = p .node; said = said ++ p .said; collected = old + p .collected }) rest₂) k₂)
+      second said old (refused r) ns h = halts
+      second said old (done p rest₂) ns (gives v) =
+          after-map (λ b u. further own (tally address a ms t) ns (l₂ (p .node) rest₂) v u) (g (record { node = p .node; said = said ++ p .said; collected = old + p .collected }) rest₂ (tally address a ns (tally address a ms t)) (v .kept))
 
   module _ (lawful : Lawful address) where
     walk-gossip : (own : A) (gs : List (Gossip A)) (s : Node A) (ds : List ℕ) (t : Tally) → Kept address a own s t → Walks own t (traceGossip address gs s ds) (gossip address gs s ds)
@@ -94,13 +94,13 @@ module _ {A : Type 0} (address : Address A) (a : A) where
     walk-spread : (own : A) (s : Node A) (t : Tally) → Kept address a own s t → Walked own t (traceSpread address s) (spread address s .node)
     unfolding spread
     walk-spread own s t k =
-        one-step own s Other (record { node = spread address s .node; said = [] }) t k (other-did address lawful a s _ (k .whole) refl refl refl)
+        one-step own s Other (record { node = spread address s .node; said = []; collected = 0 }) t k (other-did address lawful a s _ (k .whole) refl refl refl)
 
     walk-ack : (own from : A) (to : Option A) (gs : List (Gossip A)) (o : Out A) (t : Tally) → Kept address a own (o .node) t
         → Walked own t (traceAck address from to (o .node)) (forwarded address from to gs o .node)
     unfolding forwarded
     walk-ack own from none gs o t k =
-        one-step own (o .node) Other (record { node = acked address from (o .node); said = [] }) t k (acked-did address lawful a from (o .node) (k .whole))
+        one-step own (o .node) Other (record { node = acked address from (o .node); said = []; collected = 0 }) t k (acked-did address lawful a from (o .node) (k .whole))
     walk-ack own from (some to) gs o t k = nowhere k
 
     pub walk-message : (own : A) (action : Action A) (gs : List (Gossip A)) (s : Node A) (ds : List ℕ) (t : Tally) → Kept address a own s t

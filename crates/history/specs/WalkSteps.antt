@@ -22,12 +22,12 @@ use Rattle.history.specs.Walk.{Walked, one-step}
 module _ {A : Type 0} (address : Address A) (a : A) (lawful : Lawful address) where
   -- what a step did to the address
   abbrev Steps : Node A → Stepped A → Type 0
-  Steps s e = Did address a s Other (record { node = e .effect .node; said = e .effect .events })
+  Steps s e = Did address a s Other (record { node = e .effect .node; said = e .effect .events; collected = e .effect .collected })
 
   pinged-did : (now : ℕ) (gs : List (Gossip A)) (s s₁ : Node A) (picks : List A) → Turned (address .same) (address .blank) (s .own) (s .members) (s₁ .members) → s₁ .own ≡ s .own
       → Steps s (pinged address now gs s₁ picks)
   unfolding pinged change
-  pinged-did now gs s s₁ [] t m = other-did address lawful a s (record { node = s₁; said = [] }) (t .whole) (t .table) m refl
+  pinged-did now gs s s₁ [] t m = other-did address lawful a s (record { node = s₁; said = []; collected = 0 }) (t .whole) (t .table) m refl
   pinged-did now gs s s₁ (b ∷ picks) t m = put-silent address lawful a b state.Pending (numbered address b s₁) (s₁ .members) s _ (t .whole) (t .table) refl m refl
 
   ping-did : (now : ℕ) (s : Node A) (ds : List ℕ) → Whole (address .same) (s .members) → After (Steps s) (sendPing address now s ds)

@@ -97,21 +97,21 @@ module _ {A : Type 0} (address : Address A) (lawful : Lawful address) (a : A) wh
     step-went ds ms idle (gives {b = e} q) = record { stands = stands (e .effect .node) (e .wait) (q .0 .good) (q .1 .kept); fine = q .1 .fine }
 
     add-went : (b : A) (n : ℕ) (ds : List ℕ) (idle : List (Moment A)) {x : Answer (Members A)}
-        → After (λ m. Keeps address seen (withMembers seen m) × Did address a seen (Added b n) (record { node = withMembers seen m; said = [] })) x
+        → After (λ m. Keeps address seen (withMembers seen m) × Did address a seen (Added b n) (record { node = withMembers seen m; said = []; collected = 0 })) x
         → Went own t
-        (momentsBy address (kept address (stored address s) ds (andThen x λ m rest. done (record { node = withMembers seen m; messages = []; events = [] }) rest) .reply)
-        (moment (Added b n) seen (andThen x λ m rest. done (record { node = withMembers seen m; said = [] }) rest))
+        (momentsBy address (kept address (stored address s) ds (andThen x λ m rest. done (record { node = withMembers seen m; messages = []; events = []; collected = 0 }) rest) .reply)
+        (moment (Added b n) seen (andThen x λ m rest. done (record { node = withMembers seen m; said = []; collected = 0 }) rest))
         idle)
-        (record { node = kept address (stored address s) ds (andThen x λ m rest. done (record { node = withMembers seen m; messages = []; events = [] }) rest) .node; wait = w })
+        (record { node = kept address (stored address s) ds (andThen x λ m rest. done (record { node = withMembers seen m; messages = []; events = []; collected = 0 }) rest) .node; wait = w })
     add-went b n ds idle halts = stayed
     add-went b n ds idle (gives {b = m} {ds = rest} q) =
-        let v = one-step address a own seen (Added b n) (record { node = withMembers seen m; said = [] }) t counted-so-far (q .1) in
-        effect-went ds _ [] (gives {b = record { node = withMembers seen m; messages = []; events = [] }} {ds = rest} (q .0, v))
+        let v = one-step address a own seen (Added b n) (record { node = withMembers seen m; said = []; collected = 0 }) t counted-so-far (q .1) in
+        effect-went ds _ [] (gives {b = record { node = withMembers seen m; messages = []; events = []; collected = 0 }} {ds = rest} (q .0, v))
 
     -- an add of an address that is listed: no entry, by the ledger's own count
     already-went : (b : A) (n : ℕ) → lists address b seen ≡ true → Went own t (silent (Added b n) seen seen) (record { node = stored address s; wait = w })
     already-went b n e =
-        let v = one-step address a own seen (Added b n) (record { node = seen; said = [] }) t counted-so-far (already-did address lawful a b n seen (good .whole) e) in
+        let v = one-step address a own seen (Added b n) (record { node = seen; said = []; collected = 0 }) t counted-so-far (already-did address lawful a b n seen (good .whole) e) in
         record { stands = stands s w g (rw (sym seen-is) (v .kept)); fine = v .fine }
 
     end-went : (v : Fate) (ms : List (Moment A)) {x : Answer (Effect A)} → After (λ e. Keeps address seen (e .node) × Walked address a own t ms (e .node)) x

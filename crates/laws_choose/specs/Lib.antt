@@ -1,3 +1,4 @@
 pub mod LimitLaws
 pub mod GoodHeap
 pub mod ChooseLaws
+pub mod Collecting

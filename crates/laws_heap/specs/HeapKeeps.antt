@@ -8,9 +8,9 @@ use native.Mathlib.Omega.{arith}
 use lib.Dec.{ltb}
 use lib.ListN.{length}
 use borrow.Author.Tests.{ltb-true, ltb-false}
-use Rattle.model.specs.Rows.{pick, swap}
+use Rattle.model.specs.Rows.{pick, count, swap}
 use Rattle.model.specs.Heap.{parent, climb, lower, down, sink, bottom, rank}
-use Rattle.laws_heap.specs.HeapSwaps.{by, count, length-swap, count-swap, swap-first, swap-second, swap-other}
+use Rattle.laws_heap.specs.HeapSwaps.{by, length-swap, count-swap, swap-first, swap-second, swap-other}
 use Rattle.laws_heap.specs.HeapSteps.{pick-elim, fewer, lower-above, lower-within, climb-ind, down-ind}
 use Rattle.laws_heap.specs.HeapOrder.{Hole, Rising, Falling, risen, fallen, step-up, step-down, Ordered}
 

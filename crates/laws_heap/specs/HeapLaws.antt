@@ -8,9 +8,9 @@ use native.Mathlib.Nat.{le-refl}
 use native.Mathlib.Omega.{arith}
 use lib.ListN.{length, getD, set, take, length-set, length-append, List·getD-append}
 use lib.Seq.{getD-set-other, getD-take, length-take-le, take-suc, take-all}
-use Rattle.model.specs.Rows.{one, every}
+use Rattle.model.specs.Rows.{one, count, every}
 use Rattle.model.specs.Heap.{parent, push, sinkTop, removeTop, rank}
-use Rattle.laws_heap.specs.HeapSwaps.{count, count-set, kept}
+use Rattle.laws_heap.specs.HeapSwaps.{count-set, kept}
 use Rattle.laws_heap.specs.HeapOrder.{Ordered}
 use Rattle.laws_heap.specs.HeapKeeps.{At, climb-keeps, sink-keeps, bottom-keeps, swap-long, swap-counts, climb-ordered, sink-ordered, bottom-ordered}
 

@@ -1,4 +1,5 @@
 -- What a swap of two places keeps: the length, how many entries pass a test, and each place but two. Over any element.
+-- Two lists have the same entries where every test counts the same in both.
 -- Assumes nothing.
 use mathlib.Core.Path.{_≡_, refl, _∙_, ap}
 use mathlib.Core.Bool.{Bool, true, false}
@@ -10,12 +11,7 @@ use lib.Dec.{eqb, ltb}
 use lib.Seq.{getD-set-same, getD-set-other, set-getD}
 use borrow.Author.Tests.{eqb-true, eqb-false, ltb-true, ltb-false}
 use lib.ListN.{length, getD, set, length-set}
-use Rattle.model.specs.Rows.{swap, one}
-
--- how many entries pass a test: two lists have the same entries where every test counts the same in both
-unfoldable pub count : {A : Type 0} → (A → Bool) → List A → ℕ
-count f [] = 0
-count f (a ∷ xs) = one (f a) + count f xs
+use Rattle.model.specs.Rows.{swap, one, count}
 
 module _ {A : Type 0} (d : A) where
   pub length-swap : (xs : List A) (p q : ℕ) → length (swap d xs p q) ≡ length xs

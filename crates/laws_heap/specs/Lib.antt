@@ -5,3 +5,4 @@ pub mod HeapKeeps
 pub mod HeapLaws
 pub mod HeapTests
 pub mod HeapFrames
+pub mod HeapSifted

@@ -24,7 +24,7 @@ use Rattle.laws_heap.specs.HeapTests.{push-in-order}
 use Rattle.model.specs.Heap.{push}
 use Rattle.model.specs.Choose.{termsOf, entryOf}
 use Rattle.model.specs.Members.{Members, addrs, added, add, remove, merged, update}
-use Rattle.model.specs.Node.{Disseminator, heapOf, withHeap, Node, Out, withMembers, withDisseminator, withTimers, quiet, andMore, pushed, emit, lists, numbered, stateOf, heldDeath, change, leave, spread}
+use Rattle.model.specs.Node.{Disseminator, heapOf, withHeap, Node, Out, withMembers, withDisseminator, withTimers, quiet, andMore, collecting, pushes, pushed, emit, lists, numbered, stateOf, heldDeath, change, leave, spread}
 use Rattle.model.specs.Handler.{Verdict, Skip, Unknown, Equal, Low, AtEnd, Refute, Enter, Raise, Recover, Suspect, Bury, News, Silent, Emits, listAfter, newsOf, tell, act, item, gossip, admit, acked}
 use Rattle.laws_rules.specs.Judged.{Judged, skipped, joined-at-end, joined-low, joined-raises, joined-enters, recovered-unknown, recovered-low, recovered-recovers, own-at-end, own-refutes, suspected-unknown, suspected-equal, suspected-low, suspected-suspects, deceased-unknown, deceased-low, deceased-buries, judged, SenderJudged, listed-already, sender-at-end, sender-enters, sender-judged}
 use Rattle.model.specs.declared.Kind.{Kind}
@@ -33,6 +33,7 @@ use Rattle.model.specs.Sound.{ofKind, validGossip, soundEntry}
 use Rattle.laws_list.specs.Whole.{Whole, added-whole, remove-whole, update-whole, put-addrs, strike-addrs, addrs-append}
 use Rattle.laws_node.specs.Good.{Good}
 use Rattle.laws_choose.specs.GoodHeap.{GoodHeap}
+use Rattle.laws_choose.specs.Collecting.{cleared-good}
 use Rattle.laws.specs.Ranges.{ranges}
 use Rattle.laws_choose.specs.ChooseLaws.{choose-good}
 
@@ -46,9 +47,8 @@ module _ {A : Type 0} (address : Address A) where
   unfolding soundEntry
   entry-sound k g f = and-join (and-join (and-join (f .kind) (eq-eqb (sizeOf address g) (sizeOf address g) refl)) refl) (f .valid)
 
-  pub pushed-good : (k : Kind) (g : Gossip A) (d : Disseminator A) (ds : List ℕ) → Fits k g → ((j : Kind) → GoodHeap address j (heapOf j d)) → After (λ x. (j : Kind) → GoodHeap address j (heapOf j x)) (pushed address k g d ds)
-  unfolding pushed
-  pushed-good k g d ds f w =
+  pushes-good : (k : Kind) (g : Gossip A) (d : Disseminator A) (ds : List ℕ) → Fits k g → ((j : Kind) → GoodHeap address j (heapOf j d)) → After (λ x. (j : Kind) → GoodHeap address j (heapOf j x)) (pushes address k g d ds)
+  pushes-good k g d ds f w =
       after-when (λ _. halts) (λ e. gives (with-heap k (push unused sendsOf (heapOf k d) (entryOf address g)) d w (record {
         few = omega (arith, leb-false 128 (length (heapOf k d)) e, push-length unused sendsOf (heapOf k d) (entryOf address g));
         entries = push-every unused sendsOf (heapOf k d) (entryOf address g) (soundEntry address k) (w k .entries) (entry-sound k g f);
@@ -60,6 +60,15 @@ module _ {A : Type 0} (address : Address A) where
       with-heap kind.Alive h x p q kind.Deceased = p kind.Deceased
       with-heap kind.Deceased h x p q kind.Alive = p kind.Alive
       with-heap kind.Deceased h x p q kind.Deceased = q
+
+  -- with collecting on or off
+  pub pushed-good : (on : Bool) (k : Kind) (g : Gossip A) (d : Disseminator A) (ds : List ℕ) → Fits k g → ((j : Kind) → GoodHeap address j (heapOf j d)) → After (λ x. (j : Kind) → GoodHeap address j (heapOf j x)) (pushed address on k g d ds)
+  unfolding pushed
+  pushed-good on k g d ds f w = pushes-good k g (collecting address on k g d) ds f heaps
+    where
+      heaps : (j : Kind) → GoodHeap address j (heapOf j (collecting address on k g d))
+      heaps kind.Alive = cleared-good address k g (d .alive) on kind.Alive (w kind.Alive)
+      heaps kind.Deceased = w kind.Deceased
 
   -- the parts of a good node that a rule replaces
   pub with-members : (s : Node A) (m : Members A) → Good address s → Whole (address .same) m → every (address .valid) (addrs (m .table)) ≡ true → Good address (withMembers s m)
@@ -91,7 +100,7 @@ module _ {A : Type 0} (address : Address A) where
   pub emit-keeps : (k : Kind) (g : Gossip A) (s s′ : Node A) (ds : List ℕ) → Fits k g → Keeps s s′ → KeepsOut s (emit address k g s′ ds)
   unfolding emit
   emit-keeps k g s s′ ds f p =
-      after-then (pushed-good k g (s′ .disseminator) ds f (p .good .heaps))
+      after-then (pushed-good (s′ .settings .collect) k g (s′ .disseminator) ds f (p .good .heaps))
       (λ d rest w. gives (record { good = with-disseminator s′ d (p .good) w; own = p .own; settings = p .settings }))
 
   -- an event about an address in range, from one in range

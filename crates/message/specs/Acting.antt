@@ -18,6 +18,8 @@ use Rattle.address.specs.Here.{Addr, here}
 use Rattle.model.specs.Words as W
 use Rattle.model.specs.Heap.{push}
 use Rattle.model.specs.Choose.{entryOf}
+use Rattle.model.specs.Collect.{collects}
+use Rattle.laws_choose.specs.Collecting.{cleared-length}
 use Rattle.model.specs.Members as list
 use Rattle.model.specs.Node as M
 use Rattle.model.specs.Handler as handler
@@ -25,15 +27,16 @@ use Rattle.order.specs.Ends.{drew-refused, Done, drew-done}
 use Rattle.member.specs.declared.Kept.{Kept}
 use Rattle.member.specs.Views.{viewMembers, packMembers, keptMembers}
 use Rattle.heap.specs.declared.Heap.{Heap}
-use Rattle.heap.specs.Views.{view-length, pack-view}
+use Rattle.heap.specs.Views.{heapView, packHeap, Packed, view-length, pack-view}
 use Rattle.disseminate.specs.declared.Disseminator.{Disseminator}
-use Rattle.disseminate.specs.Views.{ofKind, emitted, viewDisseminator, packDisseminator, both-back}
-use Rattle.rules.specs.Views.{listAfterOf}
+use Rattle.disseminate.specs.Views.{ofKind, emitted, pushedTo, viewDisseminator, packDisseminator, both-back}
+use Rattle.disseminate.proofs.Pushing.{cleared-is, cleared-view, cleared-len, cleared-packed}
+use Rattle.rules.specs.Views.{collectsFor, listAfterOf}
 use Rattle.node.specs.declared.Node.{Node}
 use Rattle.node.specs.Views.{viewNode, packNode, withMembers, withDisseminator}
 use Rattle.node.specs.Rows.{Ready}
 use Rattle.node.specs.Parts.{ready-is}
-use Rattle.message.specs.Views.{findsFull, fullFor, RoomFor, toldTo, saidBy}
+use Rattle.message.specs.Views.{clearedFor, findsFull, fullFor, RoomFor, toldTo, saidBy}
 use Rattle.message.specs.Drawn.{list-leaves}
 
 -- what comes after an answer that was refused or not
@@ -50,13 +53,20 @@ room-for (handler.Emits kind.Alive e) kind.Deceased a d f = λ s. let z : _≡_ 
 room-for (handler.Emits kind.Deceased e) kind.Alive a d f = λ s. let z : _≡_ {A = ℕ} 0 1 = ap one s in absurd (omega arith)
 room-for (handler.Emits kind.Deceased e) kind.Deceased a d f = λ _. leb-false 128 d f
 
+-- the alive heap without what news outdates has so many entries less
+pub cleared-fits : (on : Bool) (w : handler.News Addr) (h : Heap) → Packed h
+    → Packed (clearedFor (collectsFor on w (heapView h)) w h) × (clearedFor (collectsFor on w (heapView h)) w h .len ≡ h .len - collectsFor on w (heapView h))
+cleared-fits on handler.Silent h p = (p, omega arith)
+cleared-fits on (handler.Emits k e) h p = (cleared-packed on k (record { event = e }) h p, omega (arith, cleared-len on k (record { event = e }) h p))
+
 -- a verdict that was carried out, and what the rows hold then
-pub record Acted (x : Answer (M.Out Addr)) (w : handler.News Addr) (m : Node) (draws : List ℕ) (next : ℕ) : Type 0 where
+pub record Acted (x : Answer (M.Out Addr)) (w : handler.News Addr) (old : ℕ) (m : Node) (draws : List ℕ) (next : ℕ) : Type 0 where
   pub out : M.Out Addr
   pub rest : List ℕ
   pub is : x ≡ done out rest
   pub node : m ≡ packNode (out .node)
   pub said : out .said ≡ saidBy w
+  pub collected : out .collected ≡ old
   pub left : drop next draws ≡ rest
   pub within : next ≤ length draws
 
@@ -94,38 +104,55 @@ module _ (n : Node) (r : Ready n) (v : handler.Verdict Addr) (draws : List ℕ) 
     then-tells : whole ≡ telling (listed .gave) (listed .rest)
     then-tells = list-first (done (listed .gave) (listed .rest)) (listed .is)
 
+    abbrev on : Bool
+    on = n .settings .collect
+
+    abbrev living : Heap
+    living = n .disseminator .alive
+
+    -- how many the news outdates
+    abbrev pub oldFor : handler.News Addr → ℕ
+    oldFor w = collectsFor on w (heapView living)
+
     -- the heaps after the news, in the rules' words
     abbrev afterNews : handler.News Addr → M.Disseminator Addr
     afterNews handler.Silent = viewDisseminator (n .disseminator)
-    afterNews (handler.Emits j e) =
-        let d = viewDisseminator (n .disseminator) in
-        M.withHeap j (push W.unused W.sendsOf (M.heapOf j d) (entryOf here (record { event = e }))) d
+    afterNews (handler.Emits j e) = pushedTo on j (record { event = e }) (viewDisseminator (n .disseminator))
 
-    heaps-are : (w : handler.News Addr) → record { alive = toldTo kind.Alive w (n .disseminator .alive); deceased = toldTo kind.Deceased w (n .disseminator .deceased) } ≡ packDisseminator (afterNews w)
+    heaps-are : (w : handler.News Addr) → record { alive = toldTo kind.Alive w (clearedFor (oldFor w) w living); deceased = toldTo kind.Deceased w (n .disseminator .deceased) } ≡ packDisseminator (afterNews w)
     heaps-are handler.Silent = sym (both-back (n .disseminator) (r .heaps))
     heaps-are (handler.Emits kind.Alive e) =
-        λ i. record { alive = emitted (n .disseminator .alive) (record { event = e }); deceased = sym (pack-view (n .disseminator .deceased) (r .heaps .deceased)) i }
+        let g : W.Gossip Addr = record { event = e } in
+        let a = ap (λ (l : List (W.Entry Addr)). packHeap (push W.unused W.sendsOf l (entryOf here g))) (cleared-view on kind.Alive g living (r .heaps .alive)) in
+        λ i. record { alive = a i; deceased = sym (pack-view (n .disseminator .deceased) (r .heaps .deceased)) i }
     heaps-are (handler.Emits kind.Deceased e) =
-        λ i. record { alive = sym (pack-view (n .disseminator .alive) (r .heaps .alive)) i; deceased = emitted (n .disseminator .deceased) (record { event = e }) }
+        λ i. record { alive = cleared-is on kind.Deceased (record { event = e }) living (r .heaps .alive) i; deceased = emitted (n .disseminator .deceased) (record { event = e }) }
 
     -- the rules count the entries of the list that a heap holds, the code has their number
-    held-is : (j : Kind) → length (M.heapOf j (viewDisseminator (n .disseminator))) ≡ ofKind j (n .disseminator .alive .len) (n .disseminator .deceased .len)
-    held-is kind.Alive = view-length (n .disseminator .alive) (r .heaps .alive)
-    held-is kind.Deceased = view-length (n .disseminator .deceased) (r .heaps .deceased)
+    held-is : (j : Kind) (e : W.Event Addr) → length (M.heapOf j (M.collecting here on j (record { event = e }) (viewDisseminator (n .disseminator))))
+        ≡ ofKind j (living .len - oldFor (handler.Emits j e)) (n .disseminator .deceased .len)
+    held-is kind.Alive e =
+        let g : W.Gossip Addr = record { event = e } in
+        omega (arith, cleared-length here kind.Alive g (heapView living) on, view-length living (r .heaps .alive))
+    held-is kind.Deceased e = view-length (n .disseminator .deceased) (r .heaps .deceased)
 
     abbrev full : handler.News Addr → Bool
-    full w = findsFull w (n .disseminator .alive .len) (n .disseminator .deceased .len)
+    full w = findsFull w (living .len - oldFor w) (n .disseminator .deceased .len)
+
+    -- what news leaves
+    abbrev leaves : M.Node Addr → handler.News Addr → M.Out Addr
+    leaves s w = record { node = M.withDisseminator s (afterNews w); said = saidBy w; collected = oldFor w }
 
     -- news is told by what is asked of the heap's length
-    tells : (w : handler.News Addr) (s : M.Node Addr) → s .disseminator ≡ viewDisseminator (n .disseminator) → (rest : List ℕ)
-        → handler.tell here w s rest ≡ when (full w) (refused (fullFor w)) (done (record { node = M.withDisseminator s (afterNews w); said = saidBy w }) rest)
+    tells : (w : handler.News Addr) (s : M.Node Addr) → s .disseminator ≡ viewDisseminator (n .disseminator) → s .settings .collect ≡ on → (rest : List ℕ)
+        → handler.tell here w s rest ≡ when (full w) (refused (fullFor w)) (done (leaves s w) rest)
     unfolding M.emit M.pushed M.quiet when
-    tells handler.Silent s q rest = λ i. done (record { node = M.withDisseminator s (q i); said = [] }) rest
-    tells (handler.Emits j e) s q rest =
+    tells handler.Silent s q z rest = λ i. done (record { node = M.withDisseminator s (q i); said = []; collected = 0 }) rest
+    tells (handler.Emits j e) s q z rest =
         let g : W.Gossip Addr = record { event = e } in
-        let said : M.Disseminator Addr → List ℕ → Answer (M.Out Addr) = λ d rest₂. done (record { node = M.withDisseminator s d; said = g ∷ [] }) rest₂ in
-        ap (λ (y : M.Disseminator Addr). andThen (M.pushed here j g y rest) said) q
-        ∙ ap (λ (h : ℕ). andThen (when (leb 128 h) (refused (fullOf j)) (done (afterNews (handler.Emits j e)) rest)) said) (held-is j)
+        let said : M.Disseminator Addr → List ℕ → Answer (M.Out Addr) = λ d rest₂. done (record { node = M.withDisseminator s d; said = g ∷ []; collected = oldFor (handler.Emits j e) }) rest₂ in
+        (λ i. andThen (M.pushed here (z i) j g (q i) rest) λ d rest₂. done (record { node = M.withDisseminator s d; said = g ∷ []; collected = collects here (z i) j g (q i .alive) }) rest₂)
+        ∙ ap (λ (h : ℕ). andThen (when (leb 128 h) (refused (fullOf j)) (done (afterNews (handler.Emits j e)) rest)) said) (held-is j e)
         ∙ when-then (full (handler.Emits j e)) (fullOf j) (afterNews (handler.Emits j e)) rest said
 
     -- the heap was full
@@ -133,28 +160,29 @@ module _ (n : Node) (r : Ready n) (v : handler.Verdict Addr) (draws : List ℕ) 
     unfolding viewNode when
     act-full f =
         then-tells
-        ∙ tells news (M.withMembers (viewNode n) (listed .gave)) refl (listed .rest)
-        ∙ ap (λ (u : Bool). when u (refused (fullFor news)) (done (record { node = M.withDisseminator (M.withMembers (viewNode n) (listed .gave)) (afterNews news); said = saidBy news }) (listed .rest))) f
+        ∙ tells news (M.withMembers (viewNode n) (listed .gave)) refl refl (listed .rest)
+        ∙ ap (λ (u : Bool). when u (refused (fullFor news)) (done (leaves (M.withMembers (viewNode n) (listed .gave)) news) (listed .rest))) f
 
     -- all is carried out
-    pub act-done : (a d : Heap) → a ≡ toldTo kind.Alive news (n .disseminator .alive) → d ≡ toldTo kind.Deceased news (n .disseminator .deceased) → full news ≡ false
-        → Acted whole news (withDisseminator (withMembers n (k .members)) (record { alive = a; deceased = d })) draws (used + more)
+    pub act-done : (a d : Heap) → a ≡ toldTo kind.Alive news (clearedFor (oldFor news) news living) → d ≡ toldTo kind.Deceased news (n .disseminator .deceased) → full news ≡ false
+        → Acted whole news (oldFor news) (withDisseminator (withMembers n (k .members)) (record { alive = a; deceased = d })) draws (used + more)
     unfolding packNode viewNode when
     act-done a d is-a is-d f =
         let s = M.withMembers (viewNode n) (listed .gave) in
         let t = sym (ap (λ (y : Node). y .timers) (ready-is n r)) in
         record {
-          out = record { node = M.withDisseminator s (afterNews news); said = saidBy news };
+          out = leaves s news;
           rest = listed .rest;
           is =
               then-tells
-              ∙ tells news s refl (listed .rest)
-              ∙ ap (λ (u : Bool). when u (refused (fullFor news)) (done (record { node = M.withDisseminator s (afterNews news); said = saidBy news }) (listed .rest))) f;
+              ∙ tells news s refl refl (listed .rest)
+              ∙ ap (λ (u : Bool). when u (refused (fullFor news)) (done (leaves s news) (listed .rest))) f;
           node = λ i. record { settings = n .settings; own = n .own; members = kept i; disseminator = (heaps a d is-a is-d) i; timers = t i };
           said = refl;
+          collected = refl;
           left = listed .next;
           within = listed .within;
         }
       where
-        heaps : (a d : Heap) → a ≡ toldTo kind.Alive news (n .disseminator .alive) → d ≡ toldTo kind.Deceased news (n .disseminator .deceased) → record { alive = a; deceased = d } ≡ packDisseminator (afterNews news)
+        heaps : (a d : Heap) → a ≡ toldTo kind.Alive news (clearedFor (oldFor news) news living) → d ≡ toldTo kind.Deceased news (n .disseminator .deceased) → record { alive = a; deceased = d } ≡ packDisseminator (afterNews news)
         heaps a d is-a is-d = (λ i. record { alive = is-a i; deceased = is-d i }) ∙ heaps-are news

@@ -20,7 +20,7 @@ use Rattle.types.specs.Views.{fromGossip, noGossip}
 use Rattle.node.specs.declared.Node.{Node}
 use Rattle.node.specs.declared.Letter.{Letter}
 use Rattle.node.specs.declared.Answer.{Answer}
-use Rattle.node.specs.Views.{viewNode, packNode, storedView, noLetter, plainAnswer, answerOf, spreadOf}
+use Rattle.node.specs.Views.{viewNode, packNode, storedView, noLetter, silentAnswer, plainAnswer, answerOf, spreadOf}
 use Rattle.message.specs.declared.gossip.Heard.{Heard}
 use Rattle.message.specs.declared.Received.{Received}
 use Rattle.message.specs.Views.{recordsOf}
@@ -28,8 +28,8 @@ use Rattle.message.specs.Views.{recordsOf}
 abbrev pub noRows : List Gossip
 noRows = replicate 64 noGossip
 
-abbrev pub oneLetter : ℕ → Node → Letter → Answer
-oneLetter used n l = record { reply = reply.Done used; node = n; letters = set (replicate 4 noLetter) 0 l; sent = 1 }
+abbrev pub oneLetter : ℕ → Node → Letter → ℕ → Answer
+oneLetter used n l collected = record { reply = reply.Done used; node = n; letters = set (replicate 4 noLetter) 0 l; sent = 1; collected = collected }
 
 abbrev pub refusedReceived : Node → Reply → Received
 refusedReceived n r = record { answer = plainAnswer r n; gossip = noRows; written = 0; events = replicate 65 noGossip; reported = 0 }
@@ -39,7 +39,7 @@ abbrev pub answeredOf : ℕ → Heard → Addr → Action → Received
 answeredOf used h target a =
     let c = spreadOf (M.spread here (viewNode (h .node))) in
     record {
-      answer = oneLetter used (c .node) (record { target = target; action = a; count = c .count });
+      answer = oneLetter used (c .node) (record { target = target; action = a; count = c .count }) (h .collected);
       gossip = c .rows;
       written = c .count;
       events = h .events;
@@ -50,7 +50,7 @@ answeredOf used h target a =
 abbrev pub settledOf : ℕ → Heard → Addr → Received
 settledOf used h from =
     record {
-      answer = plainAnswer (reply.Done used) (packNode (handler.acked here from (viewNode (h .node))));
+      answer = silentAnswer (reply.Done used) (packNode (handler.acked here from (viewNode (h .node)))) (h .collected);
       gossip = noRows;
       written = 0;
       events = h .events;
@@ -61,7 +61,7 @@ settledOf used h from =
 abbrev pub forwardedOf : ℕ → Heard → Addr → Addr → List Gossip → ℕ → Received
 forwardedOf used h from to rows given =
     record {
-      answer = oneLetter used (h .node) (record { target = to; action = action.Ack from Absent; count = given });
+      answer = oneLetter used (h .node) (record { target = to; action = action.Ack from Absent; count = given }) (h .collected);
       gossip = padTo 64 noGossip (take given rows);
       written = given;
       events = h .events;

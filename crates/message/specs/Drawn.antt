@@ -38,11 +38,11 @@ module _ {A : Type 0} (address : Address A) where
 
   emit-few : (k : Kind) (g : Gossip A) (s : Node A) (ds : List ℕ) → Few (emit address k g s ds)
   unfolding emit
-  emit-few k g s ds = after-then (after-any (pushed address k g (s .disseminator) ds)) (λ d rest _. gives (omega arith))
+  emit-few k g s ds = after-then (after-any (pushed address (s .settings .collect) k g (s .disseminator) ds)) (λ d rest _. gives (omega arith))
 
   tell-few : (w : News A) (s : Node A) (ds : List ℕ) → Few (tell address w s ds)
   unfolding quiet
-  tell-few Silent s ds = gives {b = record { node = s; said = [] }} (omega arith)
+  tell-few Silent s ds = gives {b = record { node = s; said = []; collected = 0 }} (omega arith)
   tell-few (Emits k e) s ds = emit-few k (record { event = e }) s ds
 
   pub act-few : (v : Verdict A) (s : Node A) (ds : List ℕ) → Few (act address v s ds)
@@ -56,7 +56,7 @@ module _ {A : Type 0} (address : Address A) where
   -- no more events than records
   pub gossip-few : (gs : List (Gossip A)) (s : Node A) (ds : List ℕ) → After (λ o. length (o .said) ≤ length gs) (gossip address gs s ds)
   unfolding andMore quiet item
-  gossip-few [] s ds = gives {b = record { node = s; said = [] }} (omega arith)
+  gossip-few [] s ds = gives {b = record { node = s; said = []; collected = 0 }} (omega arith)
   gossip-few (g ∷ gs) s ds =
       after-then (act-few _ s ds) (λ o rest one.
       after-then (gossip-few gs (o .node) rest) (λ p rest₂ others. gives (omega (arith, one, others, length-append (o .said) (p .said)))))

@@ -1,7 +1,7 @@
 -- The records of a message, one after the other: what is left of them gives the answer of the whole.
 -- Assumes nothing.
 use mathlib.Core.Path.{_≡_, refl, ap, sym, _∙_}
-use mathlib.Core.Bool.{true}
+use mathlib.Core.Bool.{Bool, true}
 use mathlib.Core.List.{List, [], _∷_, _++_, map, append-assoc, append-nil}
 use mathlib.Core.Option.{Option, none, some}
 use Prim.Native.Nat.{ℕ, zero, suc, _+_, _-_, _≤_, _<_}
@@ -30,6 +30,7 @@ use Rattle.model.specs.Calls as calls
 use Rattle.laws.specs.Packing.{PackedRow, viewRow, packRow, view-pack, pack-view, view-length, packed-pack, pack-more}
 use Rattle.types.specs.declared.Gossip.{Gossip}
 use Rattle.types.specs.Views.{toGossip, toEvent, fromEvent, fromGossip, noGossip, to-from-gossip, from-to-gossip}
+use Rattle.rules.specs.Views.{collectsFor}
 use Rattle.node.specs.declared.Node.{Node}
 use Rattle.node.specs.Views.{viewNode, packNode}
 use Rattle.node.specs.Rows.{Ready, ready-pack}
@@ -39,17 +40,22 @@ use Rattle.message.specs.declared.gossip.Report.{Report}
 use Rattle.message.specs.Views.{Rule, recordsOf, Heeded, senderRule, verdictAt, deathFor, saidBy, noted, heardOf}
 use Rattle.message.specs.Acting.{Acted}
 
--- what was said before, and then an answer
-abbrev prepend : List (W.Gossip Addr) → Answer (M.Out Addr) → Answer (M.Out Addr)
-prepend said x = andThen x λ o rest. done (record { node = o .node; said = said ++ o .said }) rest
+-- what was said and collected before, and then an answer
+abbrev pub prepend : List (W.Gossip Addr) → ℕ → Answer (M.Out Addr) → Answer (M.Out Addr)
+prepend said old x = andThen x λ o rest. done (record { node = o .node; said = said ++ o .said; collected = old + o .collected }) rest
 
-prepend-nil : (x : Answer (M.Out Addr)) → prepend [] x ≡ x
+none-more : (n : ℕ) → 0 + n ≡ n
+none-more n = omega arith
+
+pub prepend-nil : (x : Answer (M.Out Addr)) → prepend [] 0 x ≡ x
 prepend-nil (refused r) = refl
-prepend-nil (done o rest) = refl
+prepend-nil (done o rest) = λ i. done (record { node = o .node; said = o .said; collected = none-more (o .collected) i }) rest
 
-prepend-more : (said more : List (W.Gossip Addr)) (x : Answer (M.Out Addr)) → prepend said (prepend more x) ≡ prepend (said ++ more) x
-prepend-more said more (refused u) = refl
-prepend-more said more (done o rest) = λ i. done (record { node = o .node; said = sym (append-assoc said more (o .said)) i }) rest
+pub prepend-more : (said more : List (W.Gossip Addr)) (old new : ℕ) (x : Answer (M.Out Addr)) → prepend said old (prepend more new x) ≡ prepend (said ++ more) (old + new) x
+prepend-more said more old new (refused u) = refl
+prepend-more said more old new (done o rest) =
+    let c : old + (new + o .collected) ≡ old + new + o .collected = omega arith in
+    λ i. done (record { node = o .node; said = sym (append-assoc said more (o .said)) i; collected = c i }) rest
 
 -- one rule after another, three of them
 more-assoc : (x : Answer (M.Out Addr)) (f g : Rule) → M.andMore (M.andMore x f) g ≡ M.andMore x (λ m ds. M.andMore (f m ds) g)
@@ -57,14 +63,17 @@ unfolding M.andMore
 more-assoc (refused u) f g = refl
 more-assoc (done o rest) f g = inner (f (o .node) rest)
   where
-    inner : (y : Answer (M.Out Addr)) → andThen (prepend (o .said) y) (λ q r. prepend (q .said) (g (q .node) r)) ≡ prepend (o .said) (andThen y (λ p r. prepend (p .said) (g (p .node) r)))
+    inner : (y : Answer (M.Out Addr)) → andThen (prepend (o .said) (o .collected) y) (λ q r. prepend (q .said) (q .collected) (g (q .node) r))
+        ≡ prepend (o .said) (o .collected) (andThen y (λ p r. prepend (p .said) (p .collected) (g (p .node) r)))
     inner (refused u) = refl
-    inner (done p r) = sym (prepend-more (o .said) (p .said) (g (p .node) r))
+    inner (done p r) = sym (prepend-more (o .said) (p .said) (o .collected) (p .collected) (g (p .node) r))
 
 pub more-quiet : (x : Answer (M.Out Addr)) → M.andMore x M.quiet ≡ x
 unfolding M.andMore M.quiet
 more-quiet (refused r) = refl
-more-quiet (done o rest) = λ i. done (record { node = o .node; said = append-nil (o .said) i }) rest
+more-quiet (done o rest) =
+    let c : o .collected + 0 ≡ o .collected = omega arith in
+    λ i. done (record { node = o .node; said = append-nil (o .said) i; collected = c i }) rest
 
 quiet-more : (f : Rule) (m : M.Node Addr) (ds : List ℕ) → M.andMore (M.quiet m ds) f ≡ f m ds
 unfolding M.andMore M.quiet
@@ -164,9 +173,9 @@ saidIn r = viewRow toGossip fromGossip (r .events) (r .count)
 
 -- news is noted behind the others
 module _ (r : Report) (row : PackedRow 65 noGossip (r .events) (r .count)) (room : r .count < 65) where
-  note-more : (w : handler.News Addr) → PackedRow 65 noGossip (noted r w .events) (noted r w .count) × (saidIn (noted r w) ≡ saidIn r ++ saidBy w)
-  note-more handler.Silent = (row, sym (append-nil (saidIn r)))
-  note-more (handler.Emits k e) =
+  note-more : (w : handler.News Addr) (old : ℕ) → PackedRow 65 noGossip (noted r w old .events) (noted r w old .count) × (saidIn (noted r w old) ≡ saidIn r ++ saidBy w)
+  note-more handler.Silent old = (row, sym (append-nil (saidIn r)))
+  note-more (handler.Emits k e) old =
       let g : Gossip = record { event = fromEvent e } in
       let l : List (W.Gossip Addr) = saidIn r ++ (toGossip g ∷ []) in
       let p : set (r .events) (r .count) g ≡ packRow toGossip fromGossip 65 noGossip l = pack-more toGossip fromGossip from-to-gossip 65 noGossip (r .events) (r .count) g row room in
@@ -177,26 +186,31 @@ module _ (r : Report) (row : PackedRow 65 noGossip (r .events) (r .count)) (room
         rw (p, sym n) (v ∙ ap (λ (y : W.Gossip Addr). saidIn r ++ (y ∷ [])) (to-from-gossip (record { event = e }))),
       )
 
-pub noted-few : (r : Report) (w : handler.News Addr) → noted r w .count ≤ r .count + 1
-noted-few r handler.Silent = omega arith
-noted-few r (handler.Emits k e) = omega arith
+pub noted-few : (r : Report) (w : handler.News Addr) (old : ℕ) → noted r w old .count ≤ r .count + 1
+noted-few r handler.Silent old = omega arith
+noted-few r (handler.Emits k e) old = omega arith
+
+-- what was collected is counted
+pub noted-collected : (r : Report) (w : handler.News Addr) (on : Bool) (h : List (W.Entry Addr)) → noted r w (collectsFor on w h) .collected ≡ r .collected + collectsFor on w h
+noted-collected r handler.Silent on h = omega arith
+noted-collected r (handler.Emits k e) on h = refl
 
 -- how far a message has been heard: after this much, `left` is what is left to do from the node and the draws that are left
 pub record Sofar (all : Answer (M.Out Addr)) (left : Rule) (draws : List ℕ) (used : ℕ) (n : Node) (r : Report) : Type 0 where
   pub ready : Ready n
   pub row : PackedRow 65 noGossip (r .events) (r .count)
   pub within : used ≤ length draws
-  pub whole : all ≡ prepend (saidIn r) (left (viewNode n) (drop used draws))
+  pub whole : all ≡ prepend (saidIn r) (r .collected) (left (viewNode n) (drop used draws))
 
 abbrev pub unreported : Report
-unreported = record { events = replicate 65 noGossip; count = 0 }
+unreported = record { events = replicate 65 noGossip; count = 0; collected = 0 }
 
 -- the rules got through the records before i, and go on with the others
 pub record Counted (gs : List (W.Gossip Addr)) (s : M.Node Addr) (draws : List ℕ) (used i : ℕ) (n : Node) : Type 0 where
   pub count : i ≤ length gs → handler.through here gs s draws ≡ i + handler.through here (drop i gs) (viewNode n) (drop used draws)
 
 -- the node that a kept turn left, read again
-acted-view : (n : Node) {x : Answer (M.Out Addr)} {w : handler.News Addr} {m : Node} {draws : List ℕ} {next : ℕ} → After (λ o. Keeps here (viewNode n) (o .node)) x → (a : Acted x w m draws next)
+acted-view : (n : Node) {x : Answer (M.Out Addr)} {w : handler.News Addr} {old : ℕ} {m : Node} {draws : List ℕ} {next : ℕ} → After (λ o. Keeps here (viewNode n) (o .node)) x → (a : Acted x w old m draws next)
     → viewNode m ≡ a .out .node
 acted-view n keeps a = ap viewNode (a .node) ∙ nodes.view-pack (a .out .node) (given (rw (a .is) at keeps) .good .whole)
 
@@ -208,9 +222,9 @@ module _ (sender : Option Addr) (gs : List (W.Gossip Addr)) (s : M.Node Addr) (d
       let k : handler.through here gs s draws ≡ i = c .count h ∙ omega (arith, none-through sender gs i (viewNode n) (drop used draws) u h e) in
       ap (λ (j : ℕ). handler.causeAt j (length gs)) k
 
-  pub counted-next : (w : handler.News Addr) (m : Node) (next : ℕ) → After (λ o. Keeps here (viewNode n) (o .node)) (turn sender gs i (viewNode n) (drop used draws))
-      → Acted (turn sender gs i (viewNode n) (drop used draws)) w m draws next → Counted gs s draws next (i + 1) m
-  counted-next w m next keeps a =
+  pub counted-next : (w : handler.News Addr) (old : ℕ) (m : Node) (next : ℕ) → After (λ o. Keeps here (viewNode n) (o .node)) (turn sender gs i (viewNode n) (drop used draws))
+      → Acted (turn sender gs i (viewNode n) (drop used draws)) w old m draws next → Counted gs s draws next (i + 1) m
+  counted-next w old m next keeps a =
       record {
         count = λ h.
             let on : handler.through here (drop (suc i) gs) (a .out .node) (a .rest) ≡ handler.through here (drop (i + 1) gs) (viewNode m) (drop next draws) =
@@ -233,16 +247,18 @@ module _ (all : Answer (M.Out Addr)) (draws : List ℕ) where
     -- the rule was refused, and so is the whole
     pub sofar-refused : (u : Refusal) → rule (viewNode n) (drop used draws) ≡ refused u → all ≡ refused u
     unfolding M.andMore
-    sofar-refused u e = s .whole ∙ ap (λ (x : Answer (M.Out Addr)). prepend (saidIn r) (M.andMore x left)) e
+    sofar-refused u e = s .whole ∙ ap (λ (x : Answer (M.Out Addr)). prepend (saidIn r) (r .collected) (M.andMore x left)) e
 
     -- the rule was kept
-    pub sofar-more : (w : handler.News Addr) (m : Node) (next : ℕ) → After (λ o. Keeps here (viewNode n) (o .node)) (rule (viewNode n) (drop used draws)) → r .count < 65
-        → Acted (rule (viewNode n) (drop used draws)) w m draws next → Sofar all left draws next m (noted r w)
+    pub sofar-more : (w : handler.News Addr) (old : ℕ) (m : Node) (next : ℕ) → noted r w old .collected ≡ r .collected + old → After (λ o. Keeps here (viewNode n) (o .node)) (rule (viewNode n) (drop used draws)) → r .count < 65
+        → Acted (rule (viewNode n) (drop used draws)) w old m draws next → Sofar all left draws next m (noted r w old)
     unfolding M.andMore
-    sofar-more w m next keeps room a =
+    sofar-more w old m next counts keeps room a =
         let k = given (rw (a .is) at keeps) in
-        let b = note-more r (s .row) room w in
+        let b = note-more r (s .row) room w old in
         let seen : viewNode (packNode (a .out .node)) ≡ a .out .node = nodes.view-pack (a .out .node) (k .good .whole) in
+        let told = ap (λ (l : List (W.Gossip Addr)). saidIn r ++ l) (a .said) ∙ sym (b .1) in
+        let taken = ap (λ (c : ℕ). r .collected + c) (a .collected) ∙ sym counts in
         rw (a .node)
         (record {
           ready = ready-pack (a .out .node) (k .good);
@@ -250,21 +266,22 @@ module _ (all : Answer (M.Out Addr)) (draws : List ℕ) where
           within = a .within;
           whole =
               s .whole
-              ∙ ap (λ (x : Answer (M.Out Addr)). prepend (saidIn r) (M.andMore x left)) (a .is)
-              ∙ prepend-more (saidIn r) (a .out .said) (left (a .out .node) (a .rest))
-              ∙ ap (λ (l : List (W.Gossip Addr)). prepend l (left (a .out .node) (a .rest))) (ap (λ (l : List (W.Gossip Addr)). saidIn r ++ l) (a .said) ∙ sym (b .1))
-              ∙ (λ i. prepend (saidIn (noted r w)) (left (sym seen i) (sym (a .left) i)));
+              ∙ ap (λ (x : Answer (M.Out Addr)). prepend (saidIn r) (r .collected) (M.andMore x left)) (a .is)
+              ∙ prepend-more (saidIn r) (a .out .said) (r .collected) (a .out .collected) (left (a .out .node) (a .rest))
+              ∙ (λ i. prepend (told i) (taken i) (left (a .out .node) (a .rest)))
+              ∙ (λ i. prepend (saidIn (noted r w old)) (noted r w old .collected) (left (sym seen i) (sym (a .left) i)));
         })
 
   -- all is heard
-  pub sofar-ends : (n₀ n : Node) (at : Cause) (r : Report) (used : ℕ) → Sofar all M.quiet draws used n r → record { node = n; events = r .events; reported = r .count; drew = Used used; at = Sender } ≡ heardOf n₀ draws at all
+  pub sofar-ends : (n₀ n : Node) (at : Cause) (r : Report) (used : ℕ) → Sofar all M.quiet draws used n r → record { node = n; events = r .events; reported = r .count; collected = r .collected; drew = Used used; at = Sender } ≡ heardOf n₀ draws at all
   unfolding M.quiet
   sofar-ends n₀ n at r used s =
       let e : saidIn r ++ [] ≡ saidIn r = append-nil (saidIn r) in
       let ev : r .events ≡ padTo 65 noGossip (map fromGossip (saidIn r ++ [])) = sym (ap (λ (l : List (W.Gossip Addr)). padTo 65 noGossip (map fromGossip l)) e ∙ pack-view toGossip fromGossip from-to-gossip 65 noGossip (r .events) (r .count) (s .row)) in
       let rp : r .count ≡ length (saidIn r ++ []) = sym (ap length e ∙ view-length toGossip fromGossip from-to-gossip 65 noGossip (r .events) (r .count) (s .row)) in
       let us : used ≡ length draws - length (drop used draws) = omega (arith, length-drop used draws, s .within) in
-      rw (s .whole) (λ i. record { node = sym (ready-is n (s .ready)) i; events = ev i; reported = rp i; drew = Used (us i); at = Sender })
+      let cl : r .collected ≡ r .collected + 0 = omega arith in
+      rw (s .whole) (λ i. record { node = sym (ready-is n (s .ready)) i; events = ev i; reported = rp i; collected = cl i; drew = Used (us i); at = Sender })
 
 module _ (sender : Option Addr) (gs : List (W.Gossip Addr)) (all : Answer (M.Out Addr)) (draws : List ℕ) (used i : ℕ) (n : Node) (r : Report) (s : Sofar all (ahead sender gs i) draws used n r) where
   pub sofar-next : i ≤ length gs → Sofar all (λ m ds. M.andMore (turn sender gs i m ds) (ahead sender gs (i + 1))) draws used n r
@@ -274,8 +291,8 @@ module _ (sender : Option Addr) (gs : List (W.Gossip Addr)) (all : Answer (M.Out
         row = s .row;
         within = s .within;
         whole = s .whole
-            ∙ ap (prepend (saidIn r)) (ahead-next sender gs i k (viewNode n) (drop used draws) ∙ ap (λ (j : ℕ). M.andMore (turn sender gs i (viewNode n) (drop used draws)) (ahead sender gs j)) (sym (add-one i)));
+            ∙ ap (prepend (saidIn r) (r .collected)) (ahead-next sender gs i k (viewNode n) (drop used draws) ∙ ap (λ (j : ℕ). M.andMore (turn sender gs i (viewNode n) (drop used draws)) (ahead sender gs j)) (sym (add-one i)));
       }
 
   pub sofar-over : length gs < i → Sofar all M.quiet draws used n r
-  sofar-over k = record { ready = s .ready; row = s .row; within = s .within; whole = s .whole ∙ ap (prepend (saidIn r)) (ahead-over sender gs i k (viewNode n) (drop used draws)) }
+  sofar-over k = record { ready = s .ready; row = s .row; within = s .within; whole = s .whole ∙ ap (prepend (saidIn r) (r .collected)) (ahead-over sender gs i k (viewNode n) (drop used draws)) }

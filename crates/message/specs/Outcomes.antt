@@ -69,14 +69,14 @@ module _ (n : Node) (draws : List ℕ) (at : Cause) where
   -- one message with gossip chosen for it
   sent : (o : M.Out Addr) (rest : List ℕ) (h : Heard) (target : Addr) (a : Action) (c : M.Spread Addr) → h ≡ heardOf n draws at (done o rest) → M.spread here (viewNode (packNode (o .node))) ≡ c
       → answeredOf (length draws - length rest) h target a
-      ≡ receivedOf (record { reply = reply.Done (length draws - length rest); node = M.stored here (c .node); messages = record { target = target; action = toAction a; gossip = c .gossip } ∷ []; events = o .said })
+      ≡ receivedOf (record { reply = reply.Done (length draws - length rest); node = M.stored here (c .node); messages = record { target = target; action = toAction a; gossip = c .gossip } ∷ []; events = o .said; collected = o .collected })
   unfolding receivedOf answerOf
   sent o rest h target a c k e =
       let whole : c .gossip ++ [] ≡ c .gossip = append-nil (c .gossip) in
       ap (λ (v : Heard). answeredOf (length draws - length rest) v target a) k
       ∙ ap
       (λ (x : M.Spread Addr). record {
-        answer = oneLetter (length draws - length rest) (packNode (x .node)) (record { target = target; action = a; count = length (x .gossip) });
+        answer = oneLetter (length draws - length rest) (packNode (x .node)) (record { target = target; action = a; count = length (x .gossip) }) (o .collected);
         gossip = padTo 64 noGossip (map fromGossip (x .gossip));
         written = length (x .gossip);
         events = padTo 65 noGossip (map fromGossip (o .said));
@@ -89,6 +89,7 @@ module _ (n : Node) (draws : List ℕ) (at : Cause) where
           node = sym (unstored-pack (c .node)) i;
           letters = record { target = target; action = sym (from-to-action a) i; count = length (c .gossip) } ∷ replicate 3 noLetter;
           sent = 1;
+          collected = o .collected;
         };
         gossip = padTo 64 noGossip (map fromGossip (sym whole i));
         written = length (sym whole i);
@@ -113,7 +114,7 @@ module _ (n : Node) (draws : List ℕ) (at : Cause) where
       ap (λ (m : M.Node Addr). packNode (handler.acked here from m)) (view-pack (o .node) (k .good .whole)) ∙ sym (unstored-pack (handler.acked here from (o .node))) in
       ap (λ (v : Heard). settledOf (length draws - length rest) v from) e
       ∙ (λ i. record {
-        answer = record { reply = reply.Done (length draws - length rest); node = node i; letters = replicate 4 noLetter; sent = 0 };
+        answer = record { reply = reply.Done (length draws - length rest); node = node i; letters = replicate 4 noLetter; sent = 0; collected = o .collected };
         gossip = noRows;
         written = 0;
         events = padTo 65 noGossip (map fromGossip (o .said));
@@ -138,6 +139,7 @@ module _ (n : Node) (draws : List ℕ) (at : Cause) where
           node = sym (unstored-pack (o .node)) i;
           letters = record { target = to; action = action.Ack from Absent; count = count i } ∷ replicate 3 noLetter;
           sent = 1;
+          collected = o .collected;
         };
         gossip = padTo 64 noGossip (back i);
         written = written i;

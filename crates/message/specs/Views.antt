@@ -24,7 +24,7 @@ use Rattle.model.specs.Handler as handler
 use Rattle.types.specs.declared.Gossip.{Gossip}
 use Rattle.types.specs.Views.{toGossip, fromEvent, fromGossip, noGossip}
 use Rattle.heap.specs.declared.Heap.{Heap}
-use Rattle.disseminate.specs.Views.{sameKind, ofKind, emitted}
+use Rattle.disseminate.specs.Views.{sameKind, ofKind, emitted, clearedBy}
 use Rattle.node.specs.declared.Node.{Node}
 use Rattle.node.specs.Views.{packNode}
 use Rattle.message.specs.declared.gossip.Heard.{Heard}
@@ -63,6 +63,11 @@ deathFor (W.Recovered f a n) h = none
 deathFor (W.Suspected f a n) h = none
 deathFor (W.Deceased f a n) h = none
 
+-- the alive heap without what news outdates, as it came where that is nothing
+abbrev pub clearedFor : ℕ → handler.News Addr → Heap → Heap
+clearedFor old handler.Silent h = h
+clearedFor old (handler.Emits k e) h = clearedBy old k (record { event = e }) h
+
 -- is the heap full that news goes to, by how many entries both hold?
 abbrev pub findsFull : handler.News Addr → ℕ → ℕ → Bool
 findsFull handler.Silent alive deceased = false
@@ -83,18 +88,19 @@ abbrev pub toldTo : Kind → handler.News Addr → Heap → Heap
 toldTo k handler.Silent h = h
 toldTo k (handler.Emits j e) h = pick (sameKind j k) (emitted h (record { event = e })) h
 
--- what is reported of it, and behind the other events
+-- what is reported of it; and behind the other events, where so many were collected for it
 abbrev pub saidBy : handler.News Addr → List (W.Gossip Addr)
 saidBy handler.Silent = []
 saidBy (handler.Emits k e) = record { event = e } ∷ []
 
-abbrev pub noted : Report → handler.News Addr → Report
-noted r handler.Silent = r
-noted r (handler.Emits k e) = record { events = set (r .events) (r .count) (record { event = fromEvent e }); count = r .count + 1 }
+abbrev pub noted : Report → handler.News Addr → ℕ → Report
+noted r handler.Silent old = r
+noted r (handler.Emits k e) old =
+    record { events = set (r .events) (r .count) (record { event = fromEvent e }); count = r .count + 1; collected = r .collected + old }
 
 -- what was heard of a message: the node, the events to report and the draws used; or a rule was refused, and whose
 abbrev pub refusedHeard : Node → Refusal → Cause → Heard
-refusedHeard n u at = record { node = n; events = replicate 65 noGossip; reported = 0; drew = Refused u; at = at }
+refusedHeard n u at = record { node = n; events = replicate 65 noGossip; reported = 0; collected = 0; drew = Refused u; at = at }
 
 abbrev pub heardOf : Node → List ℕ → Cause → Answer (M.Out Addr) → Heard
 heardOf n ds at (refused u) = refusedHeard n u at
@@ -103,6 +109,7 @@ heardOf n ds at (done o rest) =
       node = packNode (o .node);
       events = padTo 65 noGossip (map fromGossip (o .said));
       reported = length (o .said);
+      collected = o .collected;
       drew = Used (length ds - length rest);
       at = Sender;
     }

@@ -2,6 +2,7 @@
 use address::Address;
 use disseminate::Disseminator;
 use disseminate::Found;
+use disseminate::collect;
 use heap::Heap;
 use member::Members;
 use model::Cause;
@@ -16,7 +17,7 @@ use types::Gossip;
 use types::Optional;
 ghost use mathlib.Core.Path.{_≡_};
 ghost use mathlib.Core.Bool.{true};
-ghost use Prim.Native.Nat.{_<_};
+ghost use Prim.Native.Nat.{_≤_, _<_};
 ghost use lib.ListN.{replicate};
 ghost use Rattle.address.specs.Here.{here};
 ghost use Rattle.model.specs.Node as M;
@@ -29,7 +30,7 @@ ghost use Rattle.disseminate.specs.Views.{fromFound};
 ghost use Rattle.node.specs.Views.{viewNode};
 ghost use Rattle.node.specs.Rows.{Ready};
 ghost use Rattle.rules.specs.Views.{fromVerdict, toNews};
-ghost use Rattle.message.specs.Views.{recordsOf, Heeded, senderRule, verdictAt, deathFor, findsFull, RoomFor, toldTo, noted, fullFor, refusedHeard, heardOf};
+ghost use Rattle.message.specs.Views.{recordsOf, Heeded, senderRule, verdictAt, deathFor, clearedFor, findsFull, RoomFor, toldTo, noted, fullFor, refusedHeard, heardOf};
 
 // What a message brings: its records, and the sender if it is to come in.
 pub struct Lent {
@@ -43,6 +44,8 @@ pub struct Heard {
     pub node: Node,
     pub events: [Gossip; Heard::EVENTS],
     pub reported: usize,
+    // How many held events were collected.
+    pub collected: usize,
     pub drew: Drew,
     // The sender, where no rule was refused.
     pub at: Cause,
@@ -102,6 +105,17 @@ fn verdict_at(members: Members, own: Address, deceased: Heap, lent: Lent, i: usi
     }
 }
 
+// The alive heap without the events that news outdates, `old` of them.
+fn clear(alive: Heap, old: usize, news: News) -> Heap
+    requires { ⌜ Packed alive ⌝ }
+    ensures { λ r. ⌜ r ≡ clearedFor old (toNews news) alive ⌝ }
+{
+    match news {
+        News::Silent => alive,
+        News::Emits { kind, event } => collect::clear(alive, old, kind, Gossip { event }),
+    }
+}
+
 // Is the heap full that news goes to? `alive` and `deceased` are how many entries they hold.
 fn finds_full(news: News, alive: usize, deceased: usize) -> bool
     ensures { λ r. ⌜ r ≡ findsFull (toNews news) alive deceased ⌝ }
@@ -130,26 +144,28 @@ fn tell(heap: Heap, kind: Kind, news: News) -> Heap
     }
 }
 
-// The events so far.
+// The events so far, and how many held ones were collected.
 pub struct Report {
     pub events: [Gossip; Heard::EVENTS],
     pub count: usize,
+    pub collected: usize,
 }
 
 // No news yet.
 fn no_report() -> Report
-    ensures { λ r. ⌜ r ≡ record { events = replicate 65 noGossip; count = 0 } ⌝ }
+    ensures { λ r. ⌜ r ≡ record { events = replicate 65 noGossip; count = 0; collected = 0 } ⌝ }
 {
     Report {
         events: no_events(),
         count: 0,
+        collected: 0,
     }
 }
 
-// News stands behind the other events.
-fn note(report: Report, news: News) -> Report
-    requires { ⌜ report .count < 65 ⌝ }
-    ensures { λ r. ⌜ r ≡ noted report (toNews news) ⌝ }
+// News stands behind the other events, and so many were collected for it.
+fn note(report: Report, news: News, old: usize) -> Report
+    requires { ⌜ (report .count < 65) × (report .collected ≤ 8192) × (old ≤ 128) ⌝ }
+    ensures { λ r. ⌜ r ≡ noted report (toNews news) old ⌝ }
 {
     match news {
         News::Silent => report,
@@ -160,6 +176,7 @@ fn note(report: Report, news: News) -> Report
             Report {
                 events,
                 count: at + 1,
+                collected: report.collected + old,
             }
         },
     }
@@ -173,6 +190,7 @@ fn refused(node: Node, refusal: Refusal, at: Cause) -> Heard
         node,
         events: no_events(),
         reported: 0,
+        collected: 0,
         drew: Drew::Refused(refusal),
         at,
     }
@@ -223,13 +241,14 @@ pub fn handle_gossip(node: Node, lent: Lent, draws: &[u64]) -> Heard
             }
         }
         let news = rules::news_of(verdict, node.own);
-        if finds_full(news, alive.len, deceased.len) {
+        let old = rules::old_news(node.settings.collect, alive, news);
+        if finds_full(news, alive.len - old, deceased.len) {
             return refused(node, full_heap(news), cause_at(i, lent.given));
         }
         members = kept.members;
-        alive = tell(alive, Kind::Alive, news);
+        alive = tell(clear(alive, old, news), Kind::Alive, news);
         deceased = tell(deceased, Kind::Deceased, news);
-        report = note(report, news);
+        report = note(report, news, old);
         i += 1;
     }
     let settings = node.settings;
@@ -246,6 +265,7 @@ pub fn handle_gossip(node: Node, lent: Lent, draws: &[u64]) -> Heard
         },
         events,
         reported: report.count,
+        collected: report.collected,
         drew: Drew::Used(used),
         at: Cause::Sender,
     }

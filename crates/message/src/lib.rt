@@ -66,6 +66,7 @@ fn refused(node: Node, reply: Reply) -> Received
             node,
             letters,
             sent: 0,
+            collected: 0,
         },
         gossip: no_gossip(),
         written: 0,
@@ -75,8 +76,8 @@ fn refused(node: Node, reply: Reply) -> Received
 }
 
 // An answer that sends one message.
-fn one_letter(used: usize, node: Node, letter: Letter) -> Answer
-    ensures { λ r. ⌜ r ≡ oneLetter used node letter ⌝ }
+fn one_letter(used: usize, node: Node, letter: Letter, collected: usize) -> Answer
+    ensures { λ r. ⌜ r ≡ oneLetter used node letter collected ⌝ }
 {
     let none = Letter::none();
     let mut letters = [none; Answer::LETTERS];
@@ -86,6 +87,7 @@ fn one_letter(used: usize, node: Node, letter: Letter) -> Answer
         node,
         letters,
         sent: 1,
+        collected,
     }
 }
 
@@ -103,7 +105,7 @@ fn answer(heard: Heard, used: usize, target: Address, action: Action) -> Receive
         count: spread.count,
     };
     Received {
-        answer: one_letter(used, spread.node, letter),
+        answer: one_letter(used, spread.node, letter, heard.collected),
         gossip,
         written: spread.count,
         events,
@@ -144,7 +146,7 @@ fn settle_ack(heard: Heard, used: usize, from: Address) -> Received
 {
     let events = heard.events;
     Received {
-        answer: Answer::plain(Reply::Done(used), acked(heard.node, from)),
+        answer: Answer::silent(Reply::Done(used), acked(heard.node, from), heard.collected),
         gossip: no_gossip(),
         written: 0,
         events,
@@ -171,7 +173,7 @@ fn forward_ack(
         count: given,
     };
     Received {
-        answer: one_letter(used, heard.node, letter),
+        answer: one_letter(used, heard.node, letter, heard.collected),
         gossip: first_of(rows, given),
         written: given,
         events,

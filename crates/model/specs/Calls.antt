@@ -29,12 +29,13 @@ pub data Created (A : Type 0) : Type 0 where
   created : Stored A → Created A
   notCreated : Refusal → Created A
 
--- what every other call gives: how it ended, the node, the messages and the events, in order
+-- what every other call gives: how it ended, the node, the messages and the events, in order, and how many held events were collected
 pub record Outcome (A : Type 0) : Type 0 where
   pub reply : Reply
   pub node : Stored A
   pub messages : List (Message A)
   pub events : List (Gossip A)
+  pub collected : ℕ
 
 -- the detector step gives the wait record too
 pub record StepOutcome (A : Type 0) : Type 0 where
@@ -98,7 +99,7 @@ short needed lent = ltb (lent .gossip) (needed .gossip) || ltb (lent .events) (n
 module _ {A : Type 0} where
   -- "All return the number and the node as it came; rows and wait record stay as lent; zero draws are used."
   abbrev pub unchanged : Reply → Stored A → Outcome A
-  unchanged reply s = record { reply = reply; node = s; messages = []; events = [] }
+  unchanged reply s = record { reply = reply; node = s; messages = []; events = []; collected = 0 }
 
   abbrev pub refuses : Stored A → Refusal → Outcome A
   refuses s r = unchanged (Refused r) s
@@ -146,13 +147,14 @@ module _ {A : Type 0} (address : Address A) where
         node = stored address (e .node);
         messages = e .messages;
         events = e .events;
+        collected = e .collected;
       }
 
   -- "adding a peer at a given number (no event; "already" if listed)": 2, 5, already, 7, 8
   abbrev pub joins : A → ℕ → Node A → List ℕ → Answer (Effect A)
   joins a n s ds =
       andThen (list.add (address .same) a n (s .members) ds) λ m rest.
-      done (record { node = withMembers s m; messages = []; events = [] }) rest
+      done (record { node = withMembers s m; messages = []; events = []; collected = 0 }) rest
 
   abbrev pub addTests : Stored A → A → List (Bool × Refusal)
   addTests s a = (not (sound address s), Unsound) ∷ (not (address .valid a), AddressRange) ∷ []
@@ -217,12 +219,12 @@ module _ {A : Type 0} (address : Address A) where
       (whenDue (due (s .settings) w now) s w (keptStep s w ds (step address (w .state) now (loaded s) ds)))
 
   abbrev pub reports : Answer (Out A) → Answer (Effect A)
-  reports x = andThen x λ o rest. done (record { node = o .node; messages = []; events = o .said }) rest
+  reports x = andThen x λ o rest. done (record { node = o .node; messages = []; events = o .said; collected = o .collected }) rest
 
   -- a timer's end is answered by its fate; refused, nothing is kept
   abbrev pub keptEnd : Stored A → Fate → Answer (Effect A) → Outcome A
   keptEnd s v (refused r) = refuses s r
-  keptEnd s v (done e rest) = record { reply = fateReply v; node = stored address (e .node); messages = e .messages; events = e .events }
+  keptEnd s v (done e rest) = record { reply = fateReply v; node = stored address (e .node); messages = e .messages; events = e .events; collected = e .collected }
 
   abbrev pub endsAt : Stored A → Option ℕ → Outcome A
   endsAt s none = unchanged NotDue s

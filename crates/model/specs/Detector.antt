@@ -52,7 +52,7 @@ pub record Stepped (A : Type 0) : Type 0 where
 module _ {A : Type 0} (address : Address A) where
   -- nothing but the wait record changes
   abbrev pub moves : WaitState A → ℕ → Node A → Stepped A
-  moves st now s = record { effect = record { node = s; messages = []; events = [] }; wait = enters st now }
+  moves st now s = record { effect = record { node = s; messages = []; events = []; collected = 0 }; wait = enters st now }
 
   -- "if one: Ping, set Pending, wait for PingAck; if none: the gossip is spent but not written, state kept, tick renewed"
   unfoldable pub pinged : ℕ → List (Gossip A) → Node A → List A → Stepped A
@@ -64,6 +64,7 @@ module _ {A : Type 0} (address : Address A) where
               node = change address a state.Pending (numbered address a s) s;
               messages = record { target = a; action = Ping (s .own) none; gossip = gs } ∷ [];
               events = [];
+              collected = 0;
             };
         wait = enters (WaitingForPingAck a (numbered address a s)) now;
       }
@@ -84,7 +85,7 @@ module _ {A : Type 0} (address : Address A) where
 
   -- "choose gossip for each": a PingReq goes to each peer of the group, in the order picked
   abbrev pub askEach : A → List A → Node A → List (Message A) → Effect A
-  askEach suspect [] s sent = record { node = s; messages = sent; events = [] }
+  askEach suspect [] s sent = record { node = s; messages = sent; events = []; collected = 0 }
   askEach suspect (a ∷ rest) s sent =
       let c = spread address s in
       askEach suspect rest (c .node) (sent ++ (record { target = a; action = PingReq (s .own) suspect; gossip = c .gossip } ∷ []))
@@ -98,7 +99,7 @@ module _ {A : Type 0} (address : Address A) where
   asked a n now o p =
       let e = askEach a (p .picks) (withMembers (o .node) (p .members)) [] in
       record {
-        effect = record { node = e .node; messages = e .messages; events = o .said };
+        effect = record { node = e .node; messages = e .messages; events = o .said; collected = o .collected };
         wait = enters (WaitingForPingReqAck a n) now;
       }
 

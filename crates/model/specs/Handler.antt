@@ -169,13 +169,13 @@ module _ {A : Type 0} (address : Address A) where
   unfoldable pub answerTo : A → Action A → Out A → Effect A
   answerTo target action o =
       let c = spread address (o .node) in
-      record { node = c .node; messages = record { target = target; action = action; gossip = c .gossip } ∷ []; events = o .said }
+      record { node = c .node; messages = record { target = target; action = action; gossip = c .gossip } ∷ []; events = o .said; collected = o .collected }
 
   -- "with it, an Ack goes there with the sender and gossip unchanged and no forward_to"
   unfoldable pub forwarded : A → Option A → List (Gossip A) → Out A → Effect A
-  forwarded from none gs o = record { node = acked from (o .node); messages = []; events = o .said }
+  forwarded from none gs o = record { node = acked from (o .node); messages = []; events = o .said; collected = o .collected }
   forwarded from (some to) gs o =
-      record { node = o .node; messages = record { target = to; action = Ack from none; gossip = gs } ∷ []; events = o .said }
+      record { node = o .node; messages = record { target = to; action = Ack from none; gossip = gs } ∷ []; events = o .said; collected = o .collected }
 
   unfoldable pub handle : Action A → List (Gossip A) → Node A → List ℕ → Answer (Effect A)
   -- "Ping: gossip; then an unlisted sender is added ..; then choose; then an Ack ..; requested_by also goes into its forward_to."

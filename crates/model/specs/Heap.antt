@@ -59,6 +59,11 @@ bottom d key = down d key (λ c e. true) (climb d key)
 unfoldable pub push : {A : Type 0} → A → (A → ℕ) → List A → A → List A
 push d key xs a = climb d key (xs ++ (a ∷ [])) (length xs)
 
+-- entries put into a heap, one after the other
+unfoldable pub pushAll : {A : Type 0} → A → (A → ℕ) → List A → List A → List A
+pushAll d key xs [] = xs
+pushAll d key xs (a ∷ more) = pushAll d key (push d key xs a) more
+
 -- the top is another entry, which sinks
 unfoldable pub sinkTop : {A : Type 0} → A → (A → ℕ) → List A → A → List A
 sinkTop d key xs a = sink d key (set xs 0 a) (length xs) 0

@@ -1,5 +1,5 @@
 -- What must be believed, and nothing else: the scope's rules, for any type of address, in its order:
--- numbers, refusals, sizes, heap, choosing, list and order, lamps, handler, detector, soundness, calls.
+-- numbers, refusals, sizes, heap, choosing, collecting, list and order, lamps, handler, detector, soundness, calls.
 pub mod Rows
 pub mod Bounds
 pub mod Answers
@@ -8,6 +8,7 @@ pub mod Limit
 pub mod Size
 pub mod Heap
 pub mod Choose
+pub mod Collect
 pub mod Members
 pub mod Lamps
 pub mod Node

@@ -19,6 +19,7 @@ use Rattle.model.specs.Words.{Address, Gossip, Entry, unused, sendsOf, T
 use Rattle.model.specs.Limit.{limitOf}
 use Rattle.model.specs.Heap.{push}
 use Rattle.model.specs.Choose.{choose, termsOf, entryOf, death}
+use Rattle.model.specs.Collect.{collects, cleared}
 use Rattle.model.specs.Members as list
 use Rattle.model.specs.Lamps.{lampsOf}
 
@@ -42,16 +43,18 @@ pub record Node (A : Type 0) : Type 0 where
   pub disseminator : Disseminator A
   pub timers : List (Timer A)
 
--- what a rule leaves: the node, and the events that it reported, each as the gossip record that holds it
+-- what a rule leaves: the node, the events that it reported, each as the gossip record that holds it, and how many held ones were collected
 pub record Out (A : Type 0) : Type 0 where
   pub node : Node A
   pub said : List (Gossip A)
+  pub collected : ℕ
 
--- what a call does: the node, the messages that are sent and the events that are reported, in order
+-- what a call does: the node, the messages that are sent and the events that are reported, in order, and how many held events were collected
 pub record Effect (A : Type 0) : Type 0 where
   pub node : Node A
   pub messages : List (Message A)
   pub events : List (Gossip A)
+  pub collected : ℕ
 
 -- a gossip was chosen for a message
 pub record Spread (A : Type 0) : Type 0 where
@@ -79,23 +82,37 @@ module _ {A : Type 0} where
 
   -- nothing is reported
   unfoldable pub quiet : Node A → List ℕ → Answer (Out A)
-  quiet s ds = done (record { node = s; said = [] }) ds
+  quiet s ds = done (record { node = s; said = []; collected = 0 }) ds
 
-  -- one rule after another, with all that was reported
+  -- one rule after another, with all that was reported and collected
   unfoldable pub andMore : Answer (Out A) → (Node A → List ℕ → Answer (Out A)) → Answer (Out A)
-  andMore x k = andThen x λ o rest. andThen (k (o .node) rest) λ p rest₂. done (record { node = p .node; said = o .said ++ p .said }) rest₂
+  andMore x k =
+      andThen x λ o rest.
+      andThen (k (o .node) rest) λ p rest₂.
+      done (record { node = p .node; said = o .said ++ p .said; collected = o .collected + p .collected }) rest₂
 
 module _ {A : Type 0} (address : Address A) where
+  -- "first takes from the alive heap": both heaps, where collecting is on, without what an event outdates
+  abbrev pub collecting : Bool → Kind → Gossip A → Disseminator A → Disseminator A
+  collecting on k g d = record { alive = cleared address on k g (d .alive); deceased = d .deceased }
+
   -- "an event is to be pushed to a full heap": refusal 9 or 13; else the disseminator with it
-  unfoldable pub pushed : Kind → Gossip A → Disseminator A → List ℕ → Answer (Disseminator A)
-  pushed k g d ds =
+  abbrev pub pushes : Kind → Gossip A → Disseminator A → List ℕ → Answer (Disseminator A)
+  pushes k g d ds =
       when (leb heap-places (length (heapOf k d)))
       (refused (fullOf k))
       (done (withHeap k (push unused sendsOf (heapOf k d) (entryOf address g)) d) ds)
 
+  -- "Freed places are used before 9 is given."
+  unfoldable pub pushed : Bool → Kind → Gossip A → Disseminator A → List ℕ → Answer (Disseminator A)
+  pushed on k g d ds = pushes k g (collecting on k g d) ds
+
   -- "an emitted event is pushed to its heap, then reported"
   unfoldable pub emit : Kind → Gossip A → Node A → List ℕ → Answer (Out A)
-  emit k g s ds = andThen (pushed k g (s .disseminator) ds) λ d rest. done (record { node = withDisseminator s d; said = g ∷ [] }) rest
+  emit k g s ds =
+      let on = s .settings .collect in
+      andThen (pushed on k g (s .disseminator) ds) λ d rest.
+      done (record { node = withDisseminator s d; said = g ∷ []; collected = collects address on k g (s .disseminator .alive) }) rest
 
   abbrev pub lists : A → Node A → Bool
   lists a s = list.listed (address .same) a (s .members .table)

@@ -41,6 +41,16 @@ module _ {A : Type 0} where
   every f [] = true
   every f (x ∷ l) = f x && every f l
 
+  -- how many pass a test
+  unfoldable pub count : (A → Bool) → List A → ℕ
+  count f [] = 0
+  count f (x ∷ l) = one (f x) + count f l
+
+  -- those that pass it, in their order
+  unfoldable pub those : (A → Bool) → List A → List A
+  those f [] = []
+  those f (x ∷ l) = pick (f x) (x ∷ those f l) (those f l)
+
   abbrev pub isEmpty : List A → Bool
   isEmpty [] = true
   isEmpty (x ∷ l) = false

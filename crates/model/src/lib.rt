@@ -157,6 +157,8 @@ pub struct Settings {
     pub send_constant: usize,
     pub max_selected: usize,
     pub max_size: usize,
+    // Is old news taken from the alive heap before newer is pushed?
+    pub collect: bool,
 }
 
 // The ranges of the settings: waits end below, the others at the number itself.

@@ -69,7 +69,7 @@ module _ (n : Node) (a : Addr) (number : ℕ) (draws : List ℕ) where
       module _ (r : Ready n) (l : M.lists here a (viewNode n) ≡ false) where
         -- what the list's answer makes of the node
         abbrev after : A.Answer (list.Members Addr) → A.Answer (M.Effect Addr)
-        after x = A.andThen x λ m rest. A.done (record { node = M.withMembers (viewNode n) m; messages = []; events = [] }) rest
+        after x = A.andThen x λ m rest. A.done (record { node = M.withMembers (viewNode n) m; messages = []; events = []; collected = 0 }) rest
 
         reached : kept here s draws (after (list.add (here .same) a number (viewNode n .members) draws)) ≡ addPeer here s a number draws
         reached = sym (passed ∙ ap (λ (u : Bool). orAlready u s (kept here s draws (joins here a number (viewNode n) draws))) l)
@@ -84,7 +84,7 @@ module _ (n : Node) (a : Addr) (number : ℕ) (draws : List ℕ) where
         used-of (A.done y rest) used m d q =
             let w : _≡_ {A = ℕ} (length draws - length rest) used = cc in
             ap (λ (k : ℕ). plainAnswer (Done k) (withMembers n m)) (sym w)
-            ∙ kept-is (Done (length draws - length rest)) (M.withMembers (viewNode n) y) (withMembers n m) (part-members n r y m q)
+            ∙ kept-is (Done (length draws - length rest)) (M.withMembers (viewNode n) y) (withMembers n m) [] 0 (part-members n r y m q)
 
         refused-of : (x : A.Answer (list.Members Addr)) (u : Refusal) → drewOf (length draws) x ≡ drew.Refused u → plainAnswer (Refused u) n ≡ answerOf (kept here s draws (after x))
         refused-of (A.refused w) u d = let z : w ≡ u = cc in ap (λ (k : Refusal). plainAnswer (Refused k) n) (sym z) ∙ sym (unchanged-is (Refused w) n)

@@ -3,14 +3,16 @@
 use mathlib.Core.Path.{_≡_, ap, sym, _∙_}
 use mathlib.Core.Bool.{Bool, true, false}
 use mathlib.Core.List.{List, [], _∷_}
+use Prim.Native.Nat.{ℕ}
 use lib.ListN.{replicate}
 use Rattle.model.specs.declared.Refusal.{Refusal}
 use Rattle.model.specs.declared.Reply.{Reply}
 use Rattle.address.specs.Here.{Addr, here}
+use Rattle.model.specs.Words as W
 use Rattle.model.specs.Node as M
 use Rattle.model.specs.Calls.{firstOf, unchanged}
 use Rattle.node.specs.declared.Node.{Node}
-use Rattle.node.specs.Views.{storedView, packNode, noLetter, plainAnswer, answerOf}
+use Rattle.node.specs.Views.{storedView, packNode, noLetter, silentAnswer, plainAnswer, answerOf}
 use Rattle.node.specs.Rows.{unstored-stored, unstored-pack}
 
 -- the first test fails, or it is passed and the others go on
@@ -23,10 +25,10 @@ test-passes t ts refuse go e = ap (λ (u : Bool). elim u [ true ↦ refuse (t .1
 -- an outcome that changes nothing is a plain answer with the node as it came
 pub unchanged-is : (reply : Reply) (n : Node) → answerOf (unchanged reply (storedView n)) ≡ plainAnswer reply n
 unfolding answerOf
-unchanged-is reply n = λ i. record { reply = reply; node = unstored-stored n i; letters = replicate 4 noLetter; sent = 0 }
+unchanged-is reply n = λ i. record { reply = reply; node = unstored-stored n i; letters = replicate 4 noLetter; sent = 0; collected = 0 }
 
 -- a kept call that sends nothing
-pub kept-is : (reply : Reply) (s : M.Node Addr) (m : Node) → m ≡ packNode s
-    → plainAnswer reply m ≡ answerOf (record { reply = reply; node = M.stored here s; messages = []; events = [] })
+pub kept-is : (reply : Reply) (s : M.Node Addr) (m : Node) (events : List (W.Gossip Addr)) (collected : ℕ) → m ≡ packNode s
+    → silentAnswer reply m collected ≡ answerOf (record { reply = reply; node = M.stored here s; messages = []; events = events; collected = collected })
 unfolding answerOf
-kept-is reply s m e = λ i. record { reply = reply; node = (e ∙ sym (unstored-pack s)) i; letters = replicate 4 noLetter; sent = 0 }
+kept-is reply s m events collected e = λ i. record { reply = reply; node = (e ∙ sym (unstored-pack s)) i; letters = replicate 4 noLetter; sent = 0; collected = collected }

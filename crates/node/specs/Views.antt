@@ -2,6 +2,7 @@
 -- Assumes nothing.
 use mathlib.Core.Bool.{Bool, true, false}
 use mathlib.Core.List.{[], map}
+use Prim.Native.Nat.{ℕ}
 use lib.ListN.{length, replicate}
 use Rattle.model.specs.declared.Reply.{Reply}
 use Rattle.model.specs.declared.Reply.the-variants.{Done, Refused}
@@ -103,10 +104,14 @@ noLetter = record { target = here .blank; action = Ping (here .blank) Absent; co
 abbrev pub fromMessage : W.Message Addr → Letter
 fromMessage m = record { target = m .target; action = fromAction (m .action); count = length (m .gossip) }
 
-abbrev pub plainAnswer : Reply → Node → Answer
-plainAnswer reply n = record { reply = reply; node = n; letters = replicate 4 noLetter; sent = 0 }
+-- nothing is sent; and nothing was collected
+abbrev pub silentAnswer : Reply → Node → ℕ → Answer
+silentAnswer reply n collected = record { reply = reply; node = n; letters = replicate 4 noLetter; sent = 0; collected = collected }
 
--- how a call ended, its node and its letters. The gossip of the letters stands in a row of its own
+abbrev pub plainAnswer : Reply → Node → Answer
+plainAnswer reply n = silentAnswer reply n 0
+
+-- how a call ended, its node, its letters and how many held events were collected. The gossip of the letters stands in a row of its own
 unfoldable pub answerOf : calls.Outcome Addr → Answer
 answerOf o =
     record {
@@ -114,6 +119,7 @@ answerOf o =
       node = unstored (o .node);
       letters = padTo 4 noLetter (map fromMessage (o .messages));
       sent = length (o .messages);
+      collected = o .collected;
     }
 
 -- "refused, it returns no node": the answer's place for one holds zeros
@@ -128,6 +134,7 @@ noSettings =
       «send_constant» = 0;
       «max_selected» = 0;
       «max_size» = 0;
+      collect = false;
     }
 
 abbrev pub nobody : M.Node Addr

@@ -22,7 +22,7 @@ ghost use Rattle.address.specs.Here.{here};
 ghost use Rattle.model.specs.Node.{fresh};
 ghost use Rattle.model.specs.Calls as calls;
 ghost use Rattle.member.specs.Views.{packMembers};
-ghost use Rattle.node.specs.Views.{storedView, packNode, nobody, noLetter, plainAnswer, answerOf, createdOf};
+ghost use Rattle.node.specs.Views.{storedView, packNode, nobody, noLetter, silentAnswer, plainAnswer, answerOf, createdOf};
 
 pub struct Node {
     pub settings: Settings,
@@ -59,6 +59,7 @@ impl Node {
             send_constant: 0,
             max_selected: 0,
             max_size: 0,
+            collect: false,
         };
         Node {
             settings,
@@ -108,12 +109,13 @@ impl Letter {
     }
 }
 
-// What a call answers: how it ended, the node, and the messages to be sent, in order.
+// What a call answers: how it ended, the node, the messages to be sent, in order, and how many held events were collected.
 pub struct Answer {
     pub reply: Reply,
     pub node: Node,
     pub letters: [Letter; Answer::LETTERS],
     pub sent: usize,
+    pub collected: usize,
 }
 
 impl Answer {
@@ -121,8 +123,8 @@ impl Answer {
     pub const LETTERS: usize = 4;
 
     // An answer that sends nothing.
-    pub fn plain(reply: Reply, node: Node) -> Answer
-        ensures { λ r. ⌜ r ≡ plainAnswer reply node ⌝ }
+    pub fn silent(reply: Reply, node: Node, collected: usize) -> Answer
+        ensures { λ r. ⌜ r ≡ silentAnswer reply node collected ⌝ }
     {
         let l = Letter::none();
         let letters = [l; Answer::LETTERS];
@@ -131,7 +133,15 @@ impl Answer {
             node,
             letters,
             sent: 0,
+            collected,
         }
+    }
+
+    // And nothing was collected.
+    pub fn plain(reply: Reply, node: Node) -> Answer
+        ensures { λ r. ⌜ r ≡ plainAnswer reply node ⌝ }
+    {
+        Answer::silent(reply, node, 0)
     }
 
     // A refusal hands the node back as it came.

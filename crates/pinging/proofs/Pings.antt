@@ -60,7 +60,7 @@ pub pinged-one : (n : Node) (p : Picks) (rows : List Gossip) (count used tick nu
     → number ≡ M.numbered here (getD (p .row) 0 (here .blank)) (viewNode n)
     → m ≡ packNode (M.change here (getD (p .row) 0 (here .blank)) state.Pending number (viewNode n))
     → mail ≡ posted (mailOf []) (getD (p .row) 0 (here .blank)) (Ping (n .own) Absent) rows count
-    → keptRows used m mail (record { state = WaitingForPingAck (getD (p .row) 0 (here .blank)) number; since = tick }) (noGossip ∷ []) 0
+    → keptRows used m mail (record { state = WaitingForPingAck (getD (p .row) 0 (here .blank)) number; since = tick }) (noGossip ∷ []) 0 0
     ≡ steppedOf (keptOf used (D.pinged here tick (map toGossip (take count rows)) (viewNode n) (take (p .count) (p .row))))
 unfolding D.pinged viewNode
 pinged-one n p rows count used tick number m mail h k c e f g =
@@ -68,10 +68,10 @@ pinged-one n p rows count used tick number m mail h k c e f g =
     let gs = map toGossip (take count rows) in
     let x : W.Message Addr = record { target = a; action = W.Ping (n .own) none; gossip = gs } in
     let long : count ≡ length gs = omega (arith, length-map (take count rows) toGossip, length-take-le count rows c) in
-    kept-rows used m mail _ (noGossip ∷ []) 0 (M.change here a state.Pending number (viewNode n)) (x ∷ []) [] (D.enters (W.WaitingForPingAck a number) tick)
+    kept-rows used m mail _ (noGossip ∷ []) 0 (M.change here a state.Pending number (viewNode n)) (x ∷ []) [] 0 (D.enters (W.WaitingForPingAck a number) tick)
     f (g ∙ post-is [] x (mailOf []) rows count refl (sym (from-to-gossips (take count rows))) long (omega arith)) refl refl refl
     ∙ ap (λ (y : ℕ). steppedOf (keptOf used (record {
-      effect = record { node = M.change here a state.Pending y (viewNode n); messages = x ∷ []; events = [] };
+      effect = record { node = M.change here a state.Pending y (viewNode n); messages = x ∷ []; events = []; collected = 0 };
       wait = D.enters (W.WaitingForPingAck a y) tick;
     }))) e
     ∙ ap (λ (l : List Addr). steppedOf (keptOf used (D.pinged here tick gs (viewNode n) l))) (sym (first-of (p .row) (p .count) h k .1))

@@ -1,7 +1,7 @@
 -- A ping request: the heap is full, a draw is missing, or the group is asked.
 -- Assumes nothing.
 use mathlib.Core.Path.{_≡_, refl, ap, sym, _∙_}
-use mathlib.Core.Bool.{true, false}
+use mathlib.Core.Bool.{Bool, true, false}
 use mathlib.Core.List.{List, [], _∷_}
 use mathlib.Core.Option.{some}
 use Prim.Native.Nat.{ℕ, _≤_}
@@ -28,7 +28,10 @@ use Rattle.types.specs.declared.Gossip.{Gossip}
 use Rattle.types.specs.Views.{toEvent, toGossip}
 use Rattle.model.specs.declared.Drew.the-variants as drew
 use Rattle.order.specs.declared.Exclusion.the-variants.{Peer}
-use Rattle.disseminate.specs.Views.{heldOr, viewDisseminator, Pushed}
+use Rattle.heap.specs.declared.Heap.{Heap}
+use Rattle.disseminate.specs.declared.collect.Renewed.{Renewed}
+use Rattle.disseminate.specs.Views.{clearedHeap, renewed, Pushes}
+use Rattle.disseminate.proofs.Pushing.{alive-pushes}
 use Rattle.member.specs.declared.Members.{Members}
 use Rattle.member.specs.declared.Picked.{Picked}
 use Rattle.member.specs.Views.{packMembers, viewMembers, pickedAs, pickedOf}
@@ -58,8 +61,8 @@ pub record Request : Type 0 where
   pub members-is : members ≡ packMembers (node .own) (list.update (here .same) (record { addr = target; state = state.Suspected; number = number }) (viewMembers (node .members)))
   pub gossip : Gossip
   pub named : gossip .event ≡ Suspected (node .own) target number
-  pub pushed : Pushed
-  pub pushed-is : pushed ≡ heldOr (node .disseminator) (M.pushed here kind.Alive (toGossip gossip) (viewDisseminator (node .disseminator)) [])
+  pub pushed : Renewed
+  pub pushed-is : pushed ≡ renewed (node .settings .collect) (toGossip gossip) (node .disseminator .alive)
 
 module _ (q : Request) where
   abbrev changed : M.Node Addr
@@ -87,25 +90,41 @@ module _ (q : Request) where
   unfolding D.suspect viewNode
   suspects = ap (λ (x : Event). M.emit here kind.Alive (record { event = toEvent x }) changed (q .draws)) (sym (q .named))
 
-  pub request-full : q .pushed .full ≡ true → plainStep (Refused AliveFull) (q .node) (q .wait) ≡ requested
-  unfolding D.sendPingReq
+  abbrev on : Bool
+  on = q .node .settings .collect
+
+  abbrev living : Heap
+  living = q .node .disseminator .alive
+
+  pushes : Pushes on kind.Alive (toGossip (q .gossip)) (q .node .disseminator) (record { alive = q .pushed .grown .heap; deceased = q .node .disseminator .deceased }) (q .pushed .grown .full)
+  pushes =
+      alive-pushes (q .node .disseminator) (q .ready .heaps) (toGossip (q .gossip)) on (clearedHeap on kind.Alive (toGossip (q .gossip)) living) (q .pushed .grown) refl
+      (ap (λ (x : Renewed). x .grown) (q .pushed-is))
+
+  pub request-full : q .pushed .grown .full ≡ true → plainStep (Refused AliveFull) (q .node) (q .wait) ≡ requested
+  unfolding D.sendPingReq viewNode M.change
   request-full h =
       plain-step (Refused AliveFull) (q .node) (q .wait)
-      ∙ sym (ap (λ (x : A.Answer (M.Out Addr)). outcome (then-ask x)) (suspects ∙ emit-full kind.Alive (toGossip (q .gossip)) (q .draws) changed-good changed-is (q .pushed-is) h))
+      ∙ sym (ap (λ (x : A.Answer (M.Out Addr)). outcome (then-ask x)) (suspects ∙ emit-full kind.Alive (toGossip (q .gossip)) (q .draws) changed-good changed-is pushes h))
 
-  module _ (h : q .pushed .full ≡ false) where
+  module _ (h : q .pushed .grown .full ≡ false) where
     -- the node with its heap changed too, of which the code makes the heap alone
     abbrev emitted : Node
-    emitted = withDisseminator (withMembers (q .node) (q .members)) (q .pushed .disseminator)
+    emitted = withDisseminator (withMembers (q .node) (q .members)) (record { alive = q .pushed .grown .heap; deceased = q .node .disseminator .deceased })
 
-    kept : Said (toGossip (q .gossip)) (q .draws) (M.emit here kind.Alive (toGossip (q .gossip)) changed (q .draws)) emitted
-    kept = emit-kept kind.Alive (toGossip (q .gossip)) (q .draws) changed-good changed-is (q .pushed-is) h
+    kept : Said kind.Alive (toGossip (q .gossip)) (q .draws) changed (M.emit here kind.Alive (toGossip (q .gossip)) changed (q .draws)) emitted
+    unfolding viewNode M.change
+    kept = emit-kept kind.Alive (toGossip (q .gossip)) (q .draws) changed-good changed-is pushes h
 
     abbrev said : M.Node Addr
     said = kept .after
 
-    suspected : D.suspect here (q .target) (q .number) (viewNode (q .node)) (q .draws) ≡ A.done (record { node = said; said = toGossip (q .gossip) ∷ [] }) (q .draws)
-    suspected = suspects ∙ kept .is
+    abbrev told : ℕ → M.Out Addr
+    told n = record { node = said; said = toGossip (q .gossip) ∷ []; collected = n }
+
+    suspected : D.suspect here (q .target) (q .number) (viewNode (q .node)) (q .draws) ≡ A.done (told (q .pushed .collected)) (q .draws)
+    unfolding viewNode M.change
+    suspected = suspects ∙ kept .is ∙ sym (ap (λ (x : Renewed). A.done (told (x .collected)) (q .draws)) (q .pushed-is))
 
     said-good : Good here said
     said-good = after-is {P = λ (o : M.Out Addr). Keeps here (viewNode (q .node)) (o .node)} suspected (suspect-keeps here here-lawful (q .target) (q .number) (viewNode (q .node)) (q .draws) (q .ready .good) (q .valid)) .good
@@ -121,7 +140,7 @@ module _ (q : Request) where
     wanted-few = ranges (q .node .settings) (q .ready .good .settings) .group
 
     abbrev then-asked : A.Answer (list.Picked Addr) → A.Answer (D.Stepped Addr)
-    then-asked x = A.andThen x λ p rest₂. A.done (D.asked here (q .target) (q .number) (q .tick) (record { node = said; said = toGossip (q .gossip) ∷ [] }) p) rest₂
+    then-asked x = A.andThen x λ p rest₂. A.done (D.asked here (q .target) (q .number) (q .tick) (told (q .pushed .collected)) p) rest₂
 
     reached : outcome (then-asked (D.pickGroup here (q .target) said (q .draws))) ≡ requested
     unfolding D.sendPingReq
@@ -153,9 +172,9 @@ module _ (q : Request) where
         pub request-few : k .picks .count ≤ 4
         request-few = omega (arith, group .few, ranges (said .settings) (said-good .settings) .group)
 
-        pub request-kept : steppedOf (keptOf used (groupAsked (q .target) (q .number) (q .tick) (toGossip (q .gossip)) (D.askEach here (q .target) (take (k .picks .count) (k .picks .row)) (viewNode t) []))) ≡ requested
+        pub request-kept : steppedOf (keptOf used (groupAsked (q .target) (q .number) (q .tick) (toGossip (q .gossip)) (q .pushed .collected) (D.askEach here (q .target) (take (k .picks .count) (k .picks .row)) (viewNode t) []))) ≡ requested
         unfolding D.asked
         request-kept =
-            (λ i. steppedOf (keptOf (group .many i) (groupAsked (q .target) (q .number) (q .tick) (toGossip (q .gossip)) (D.askEach here (q .target) (group .picks i) (group .seen i) []))))
+            (λ i. steppedOf (keptOf (group .many i) (groupAsked (q .target) (q .number) (q .tick) (toGossip (q .gossip)) (q .pushed .collected) (D.askEach here (q .target) (group .picks i) (group .seen i) []))))
             ∙ sym (ap (λ (j : A.Answer (list.Picked Addr)). outcome (then-asked j)) (group .is))
             ∙ reached

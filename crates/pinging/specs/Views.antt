@@ -29,10 +29,10 @@ askedOne n m a suspect =
 abbrev pub askedOf : M.Effect Addr → Asked
 askedOf e = record { node = packNode (e .node); mail = mailOf (e .messages) }
 
--- a suspicion was reported, and the group asked
-abbrev pub groupAsked : Addr → ℕ → ℕ → W.Gossip Addr → M.Effect Addr → D.Stepped Addr
-groupAsked a n tick g e =
+-- a suspicion was reported, so many events collected for it, and the group asked
+abbrev pub groupAsked : Addr → ℕ → ℕ → W.Gossip Addr → ℕ → M.Effect Addr → D.Stepped Addr
+groupAsked a n tick g collected e =
     record {
-      effect = record { node = e .node; messages = e .messages; events = g ∷ [] };
+      effect = record { node = e .node; messages = e .messages; events = g ∷ []; collected = collected };
       wait = D.enters (W.WaitingForPingReqAck a n) tick;
     }

@@ -1,6 +1,7 @@
 // Pings and ping requests: what is picked, changed and sent.
 use address::Address;
 use disseminate::Disseminator;
+use disseminate::collect;
 use member::Member;
 use model::Drew;
 use model::Refusal;
@@ -69,7 +70,7 @@ fn pinged(
         event: Event::Nothing,
     };
     let events = [nothing; Stepped::EVENTS];
-    Stepped::kept(used, after, sent, wait, events, 0)
+    Stepped::kept(used, after, sent, wait, events, 0, 0)
 }
 
 // SendingPing: gossip is chosen, then one peer is picked.
@@ -143,18 +144,19 @@ fn ask_each(node: Node, picks: Picks, suspect: Address) -> Asked
     Asked { node: ahead, mail }
 }
 
-// The group is asked about a suspect, and the answer waited for.
+// The group is asked about a suspect, and the answer waited for. `collected` events went when the suspicion came.
 fn ask_group(
     node: Node,
     picks: Picks,
     target: Address,
     number: u64,
     suspected: Gossip,
+    collected: usize,
     used: usize,
     tick: u32,
 ) -> Stepped
     requires { ⌜ Ready node × (picks .count ≤ 4) ⌝ }
-    ensures { λ r. ⌜ Gives (keptOf used (groupAsked target number tick (toGossip suspected) (D.askEach here target (take (picks .count) (picks .row)) (viewNode node) []))) r ⌝ }
+    ensures { λ r. ⌜ Gives (keptOf used (groupAsked target number tick (toGossip suspected) collected (D.askEach here target (take (picks .count) (picks .row)) (viewNode node) []))) r ⌝ }
 {
     let asked = ask_each(node, picks, target);
     let after = asked.node;
@@ -164,7 +166,7 @@ fn ask_group(
         since: tick,
     };
     let events = [suspected; Stepped::EVENTS];
-    Stepped::kept(used, after, mail, wait, events, 1)
+    Stepped::kept(used, after, mail, wait, events, 1, collected)
 }
 
 // SendingPingReq: Suspected at the remembered number, emitted even if absent (9), then the group is picked without the suspect (8) and asked.
@@ -191,11 +193,11 @@ pub fn send_ping_req(
     let suspected = Gossip {
         event: Event::new_node_suspected(node.own, target, number),
     };
-    let pushed = disseminate::grow(node.disseminator.alive, suspected);
-    if pushed.full {
+    let settings = node.settings;
+    let pushed = collect::renew(node.disseminator.alive, settings.collect, suspected);
+    if pushed.grown.full {
         return Stepped::plain(Reply::Refused(Refusal::AliveFull), node, wait);
     }
-    let settings = node.settings;
     let wanted = settings.ping_req_group_size;
     let picked = changed.get_member_list(node.own, Exclusion::Peer(target), wanted, draws, 0);
     let after = picked.members;
@@ -205,7 +207,7 @@ pub fn send_ping_req(
         Drew::Used(used) => {
             let own = node.own;
             let timers = node.timers;
-            let alive = pushed.heap;
+            let alive = pushed.grown.heap;
             let deceased = node.disseminator.deceased;
             let turned = Node {
                 settings,
@@ -214,7 +216,16 @@ pub fn send_ping_req(
                 disseminator: Disseminator { alive, deceased },
                 timers,
             };
-            ask_group(turned, picks, target, number, suspected, used, tick)
+            ask_group(
+                turned,
+                picks,
+                target,
+                number,
+                suspected,
+                pushed.collected,
+                used,
+                tick,
+            )
         }
         Drew::Refused(missed) => Stepped::plain(Reply::Refused(missed), node, wait),
     }

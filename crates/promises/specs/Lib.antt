@@ -17,3 +17,4 @@ pub mod Exists
 pub mod Panel
 pub mod Begun
 pub mod Demand3
+pub mod Collects

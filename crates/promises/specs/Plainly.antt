@@ -117,10 +117,10 @@ module _ {A : Type 0} (address : Address A) (s : Node A) (ds : List ℕ) where
       only-if (SendingPingReq a n) (passes p (fails p′ q)) = other q (omega arith)
       only-if (Declaring a n) (fails p q) = (a, n, refl, leb-true _ _ p)
 
-  pub step-heap-full : (st : WaitState A) → FirstFails AliveFull (stepStops address st s ds) ↔ StepHeapFull st s
+  pub step-heap-full : (st : WaitState A) → FirstFails AliveFull (stepStops address st s ds) ↔ StepHeapFull address st s
   step-heap-full st = (only-if st, (λ h. rw (h .2) (fails (le-leb _ _ (h .3)) refl)))
     where
-      only-if : (st : WaitState A) → FirstFails AliveFull (stepStops address st s ds) → StepHeapFull st s
+      only-if : (st : WaitState A) → FirstFails AliveFull (stepStops address st s ds) → StepHeapFull address st s
       only-if SendingPing (fails p q) = other q (omega arith)
       only-if (SendingPingReq a n) (fails p q) = (a, n, refl, leb-true _ _ p)
       only-if (SendingPingReq a n) (passes p (fails p′ q)) = other q (omega arith)

@@ -5,7 +5,7 @@ use mathlib.Core.Logic.{_↔_, _⊎_, inl, inr}
 use mathlib.Core.Bool.{Bool}
 use mathlib.Core.List.{List, [], _∷_, _++_}
 use mathlib.Core.Option.{Option, none, some}
-use Prim.Native.Nat.{ℕ, zero, suc, _<_}
+use Prim.Native.Nat.{ℕ, zero, suc, _+_, _<_}
 use native.Mathlib.Omega.{arith}
 use lib.ListN.{length, getD, take, length-take}
 use borrow.Author.Tests.{lt-ltb, le-ltb}
@@ -18,19 +18,18 @@ use Rattle.model.specs.declared.Kind.the-variants as kind
 use Rattle.model.specs.declared.Refusal.{Refusal}
 use Rattle.model.specs.declared.Refusal.the-variants.{NumberEnd, ListFull, DrawsShort, AliveFull, DeceasedFull}
 use Rattle.model.specs.Rows.{pick}
-use Rattle.model.specs.Answers.{Answer, done, refused, andThen}
+use Rattle.model.specs.Answers.{Answer, done, refused, andThen, fullOf}
 use Rattle.model.specs.Words.{Address, Gossip, nothing, Action, Ping, PingReq, Ack}
 use Rattle.model.specs.Node as M
 use Rattle.model.specs.Node.{Node, Out}
 use Rattle.model.specs.Handler as handler
 use Rattle.promises.specs.Firsts.{FirstFails, first-among}
-use Rattle.promises.specs.Stops.{itemWants, admitWants, itemStops, fullFor, StopsAt, AdmissionStops, at-admission, MessageStops, at-record, at-sender}
+use Rattle.promises.specs.Stops.{Push, itemWants, admitWants, itemStops, fullFor, StopsAt, AdmissionStops, at-admission, MessageStops, at-record, at-sender}
 use Rattle.promises.specs.Stopping.{item-exactly, admit-exactly}
 
-full-among : (P : Refusal → Type 0) → P AliveFull → P DeceasedFull → (heap : Option Kind) → P (fullFor heap)
+full-among : (P : Refusal → Type 0) → P AliveFull → P DeceasedFull → {A : Type 0} (p : Option (Push A)) → P (fullFor p)
 full-among P nine thirteen none = nine
-full-among P nine thirteen (some kind.Alive) = nine
-full-among P nine thirteen (some kind.Deceased) = thirteen
+full-among P nine thirteen (some p) = elim (p .heap) as (λ k. P (fullOf k)) [ kind.Alive ↦ nine | kind.Deceased ↦ thirteen ]
 
 -- what holds of the refusals of an item or an admission holds of a message's
 pub message-among : {A : Type 0} {address : Address A} {gs : List (Gossip A)} {s : Node A} {ds : List ℕ} {x : Refusal} {action : Action A} (P : Refusal → Type 0)
@@ -76,11 +75,11 @@ module _ {A : Type 0} (k : Node A → List ℕ → Answer (Out A)) where
       let r = second (k (o .node) rest) refl e in
       (o, rest, refl, r .0, r .1, r .2)
     where
-      second : (b : Answer (Out A)) → k (o .node) rest ≡ b → andThen b (λ q rest₂. done (record { node = q .node; said = o .said ++ q .said }) rest₂) ≡ done p left
+      second : (b : Answer (Out A)) → k (o .node) rest ≡ b → andThen b (λ q rest₂. done (record { node = q .node; said = o .said ++ q .said; collected = o .collected + q .collected }) rest₂) ≡ done p left
           → (q : Out A) × (k (o .node) rest ≡ done q left) × (q .node ≡ p .node)
       second (refused y) f g = never g
       second (done q rest₂) f g =
-          let same : record { node = q .node; said = o .said ++ q .said } ≡ p = cc in
+          let same : record { node = q .node; said = o .said ++ q .said; collected = o .collected + q .collected } ≡ p = cc in
           let l : rest₂ ≡ left = cc in
           (q, f ∙ ap (done q) l, λ i. same i .node)
 
@@ -92,11 +91,11 @@ module _ {A : Type 0} (address : Address A) (x : Refusal) where
   further g gs s ds o rest k e h =
       record {
         there = omega (arith, h .there);
-        so-far = record { node = h .so-far .node; said = o .said ++ h .so-far .said };
+        so-far = record { node = h .so-far .node; said = o .said ++ h .so-far .said; collected = o .collected + h .so-far .collected };
         left = h .left;
         through =
             (λ i. M.andMore (e i) (handler.gossip address (take k gs)))
-            ∙ (λ i. andThen (h .through i) λ p rest₂. done (record { node = p .node; said = o .said ++ p .said }) rest₂);
+            ∙ (λ i. andThen (h .through i) λ p rest₂. done (record { node = p .node; said = o .said ++ p .said; collected = o .collected + p .collected }) rest₂);
         stops = h .stops;
       }
 
@@ -105,7 +104,7 @@ module _ {A : Type 0} (address : Address A) (x : Refusal) where
   halted [] s ds e = never (sym e)
   halted (g ∷ gs) s ds e =
       elim (more-refused (handler.gossip address gs) (handler.item address (g .event) s ds) x .0 e) [
-        | inl f ↦ (0, record { there = omega arith; so-far = record { node = s; said = [] }; left = ds; through = refl; stops = item-exactly address x (g .event) s ds .0 f })
+        | inl f ↦ (0, record { there = omega arith; so-far = record { node = s; said = []; collected = 0 }; left = ds; through = refl; stops = item-exactly address x (g .event) s ds .0 f })
         | inr t ↦ let h = halted gs (t .0 .node) (t .1) (t .3) in (suc (h .0), further g gs s ds (t .0) (t .1) (h .0) (t .2) (h .1))
       ]
 
@@ -113,7 +112,7 @@ module _ {A : Type 0} (address : Address A) (x : Refusal) where
   unfolding M.quiet
   stopped [] s ds k h = absurd (omega (arith, h .there))
   stopped (g ∷ gs) s ds zero h =
-      let fresh : Out A = record { node = s; said = [] } in
+      let fresh : Out A = record { node = s; said = []; collected = 0 } in
       let told : done fresh ds ≡ done (h .so-far) (h .left) = h .through in
       let o-is : h .so-far ≡ fresh = cc in
       let rest-is : h .left ≡ ds = cc in
@@ -165,7 +164,7 @@ module _ {A : Type 0} (address : Address A) (x : Refusal) where
   unfolding M.quiet
   through-until [] s ds k h = absurd (omega (arith, h .there))
   through-until (g ∷ gs) s ds zero h =
-      let fresh : Out A = record { node = s; said = [] } in
+      let fresh : Out A = record { node = s; said = []; collected = 0 } in
       let told : done fresh ds ≡ done (h .so-far) (h .left) = h .through in
       let o-is : h .so-far ≡ fresh = cc in
       let rest-is : h .left ≡ ds = cc in

@@ -67,7 +67,7 @@ add-silent s a n ds =
       | false ↦ added (list.add (here .same) a n (M.loaded s .members) ds)
     ])
   where
-    added : (x : Answer (list.Members Addr)) → calls.kept here s ds (andThen x λ m rest. done (record { node = M.withMembers (M.loaded s) m; messages = []; events = [] }) rest) .events ≡ []
+    added : (x : Answer (list.Members Addr)) → calls.kept here s ds (andThen x λ m rest. done (record { node = M.withMembers (M.loaded s) m; messages = []; events = []; collected = 0 }) rest) .events ≡ []
     added (refused r) = refl
     added (done m rest) = refl
 

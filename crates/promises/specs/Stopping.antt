@@ -26,13 +26,15 @@ use Rattle.model.specs.Words.{Address, isAlive, partsOf, Event, Suspected, Dece
 use Rattle.model.specs.Members as list
 use Rattle.model.specs.Node as M
 use Rattle.model.specs.Node.{Node, lists, numbered, stateOf, heldDeath}
+use Rattle.model.specs.Collect.{isOld, collects}
+use Rattle.laws_choose.specs.Collecting.{cleared-length}
 use Rattle.model.specs.Handler as handler
 use Rattle.laws_rules.specs.Judged.{Believed, of-alive, of-other, Judged, skipped, joined-at-end, joined-low, joined-raises, joined-enters, recovered-unknown, recovered-low, recovered-recovers, own-at-end, own-refutes, suspected-unknown, suspected-equal, suspected-low, suspected-suspects, deceased-unknown, deceased-low, deceased-buries, judged, SenderJudged, listed-already, sender-at-end, sender-enters, sender-judged}
 use Rattle.model.specs.Detector as D
 use Rattle.model.specs.Calls as calls
 use Rattle.promises.specs.Firsts.{FirstFails, Among, fails, Refuses, halts, goes, exactly, untested, tested, then}
 use Rattle.promises.specs.Reads.{pickReads, pick-reading, reading-refuses}
-use Rattle.promises.specs.Stops.{plusOneOr0, atEnd, nothingWanted, listFull, heapFull, timersFull, addStops, wantsStops, endStops, itemStops, admitStops, pingReads, groupReads, stepStops}
+use Rattle.promises.specs.Stops.{plusOneOr0, atEnd, nothingWanted, listFull, heldIn, heapFull, timersFull, addStops, wantsStops, endStops, itemStops, admitStops, pingReads, groupReads, stepStops}
 
 plus-some : (n m : ℕ) → M.plusOne n ≡ some m → (leb last-number n ≡ false) × (n + 1 ≡ m)
 plus-some n m =
@@ -93,21 +95,35 @@ module _ {A : Type 0} (address : Address A) where
   unfolding list.add
   add-refuses a n s ds = tested (listFull s) (draw-refuses ds (λ d rest. goes tt))
 
-  emit-refuses : (k : Kind) (g : Gossip A) (s : Node A) (ds : List ℕ) → Refuses ((heapFull k s, fullOf k) ∷ []) (M.emit address k g s ds)
+  -- what a heap holds when an event comes to it
+  held-is : (k : Kind) (g : Gossip A) (s : Node A) → let p = partsOf address (g .event) in
+      length (M.heapOf k (M.collecting address (s .settings .collect) k g (s .disseminator))) ≡ heldIn address k (p .subject) (p .number) s
+  unfolding collects isOld
+  held-is kind.Alive g s = omega (arith, cleared-length address kind.Alive g (s .disseminator .alive) (s .settings .collect))
+  held-is kind.Deceased g s = refl
+
+  -- whether it finds its heap full
+  abbrev fullOn : Kind → Gossip A → Node A → Bool
+  fullOn k g s = let p = partsOf address (g .event) in heapFull address k (p .subject) (p .number) s
+
+  emit-refuses : (k : Kind) (g : Gossip A) (s : Node A) (ds : List ℕ) → Refuses ((fullOn k g s, fullOf k) ∷ []) (M.emit address k g s ds)
   unfolding M.emit M.pushed
-  emit-refuses k g s ds = then ((heapFull k s, fullOf k) ∷ []) (tested (heapFull k s) (goes tt)) (λ d rest. goes tt)
+  emit-refuses k g s ds =
+      let held : ℕ = length (M.heapOf k (M.collecting address (s .settings .collect) k g (s .disseminator))) in
+      rw (sym (held-is k g s)) (then ((leb 128 held, fullOf k) ∷ []) (tested (leb 128 held) (goes tt)) (λ d rest. goes tt))
 
   -- nothing is asked for, one event, or an address with its event
-  quiet-stops : (s : Node A) (ds : List ℕ) → Refuses (wantsStops nothingWanted s ds) (M.quiet s ds)
+  quiet-stops : (s : Node A) (ds : List ℕ) → Refuses (wantsStops address nothingWanted s ds) (M.quiet s ds)
   quiet-stops s ds = untested (untested (untested (untested (quiet-refuses s ds))))
 
-  push-stops : (d : Option ℕ) (k : Kind) (g : Gossip A) (s s′ : Node A) (ds : List ℕ) → atEnd d ≡ false → heapFull k s′ ≡ heapFull k s
-      → Refuses (wantsStops (record { plus-one = d; adds = false; pushes = some k }) s ds) (M.emit address k g s′ ds)
+  push-stops : (d : Option ℕ) (k : Kind) (g : Gossip A) (s s′ : Node A) (ds : List ℕ) → atEnd d ≡ false → fullOn k g s′ ≡ fullOn k g s
+      → let p = partsOf address (g .event) in
+      Refuses (wantsStops address (record { plus-one = d; adds = false; pushes = some (record { heap = k; about = p .subject; number = p .number }) }) s ds) (M.emit address k g s′ ds)
   push-stops d k g s s′ ds e f = rw (e, sym f) (untested (untested (untested (emit-refuses k g s′ ds))))
 
   enter-stops : (d : Option ℕ) (a : A) (n : ℕ) (s : Node A) (ds : List ℕ) → atEnd d ≡ false
-      → Refuses (wantsStops (record { plus-one = d; adds = true; pushes = some kind.Alive }) s ds) (handler.act address (handler.Enter a n) s ds)
-  unfolding handler.act handler.listAfter handler.newsOf
+      → Refuses (wantsStops address (record { plus-one = d; adds = true; pushes = some (record { heap = kind.Alive; about = a; number = n }) }) s ds) (handler.act address (handler.Enter a n) s ds)
+  unfolding handler.act handler.listAfter handler.newsOf partsOf
   enter-stops d a n s ds e = rw e (untested (then (addStops s ds) (add-refuses a n s ds) (λ m rest. emit-refuses kind.Alive _ (M.withMembers s m) rest)))
 
   judged-refuses : (e : Event A) (v : handler.Verdict A) (s : Node A) (ds : List ℕ) → Judged address (s .own) (s .members .table) (heldDeath address (partsOf address e .subject) s) e v
@@ -123,12 +139,12 @@ module _ {A : Type 0} (address : Address A) where
       rw (q .1, l, lt-ltb (numbered address a s) (max least n) h) (push-stops (heldDeath address a s) kind.Alive _ s _ ds (q .0) refl)
   judged-refuses _ _ s ds (joined-enters {a = a} {n = n} least e l) =
       let q = death-some (heldDeath address a s) least e in
-      rw l (enter-stops (heldDeath address a s) a (max least n) s ds (q .0))
+      rw (l, q .1) (enter-stops (heldDeath address a s) a (max least n) s ds (q .0))
   judged-refuses _ _ s ds (recovered-unknown l) = rw l (quiet-stops s ds)
   judged-refuses _ _ s ds (recovered-low {a = a} {n = n} l h) = rw (l, le-ltb (numbered address a s) n h) (quiet-stops s ds)
   judged-refuses _ _ s ds (recovered-recovers {a = a} {n = n} l h) = rw (l, lt-ltb (numbered address a s) n h) (push-stops none kind.Alive _ s _ ds refl refl)
   judged-refuses _ _ s ds (own-at-end {n = n} o e) = rw o (halts (fails (plus-none n e) refl))
-  judged-refuses _ _ s ds (own-refutes {n = n} next o e) = rw o (push-stops (some n) kind.Alive _ s s ds (plus-some n next e .0) refl)
+  judged-refuses _ _ s ds (own-refutes {n = n} next o e) = rw (o, plus-some n next e .1) (push-stops (some n) kind.Alive _ s s ds (plus-some n next e .0) refl)
   judged-refuses _ _ s ds (suspected-unknown o l) = rw (o, l) (quiet-stops s ds)
   judged-refuses _ _ s ds (suspected-equal {a = a} {n = n} o l h e) = rw (o, l, not-believed-equal (stateOf address a s) (numbered address a s) n h e) (quiet-stops s ds)
   judged-refuses _ _ s ds (suspected-low {a = a} {n = n} o l h) = rw (o, l, not-believed-low (stateOf address a s) (numbered address a s) n h) (quiet-stops s ds)
@@ -145,7 +161,7 @@ module _ {A : Type 0} (address : Address A) where
   unfolding handler.act handler.listAfter handler.newsOf
   sender-refuses a _ s ds (listed-already l) = rw l (quiet-stops s ds)
   sender-refuses a _ s ds (sender-at-end l e) = rw l (halts (fails (death-none (heldDeath address a s) e) refl))
-  sender-refuses a _ s ds (sender-enters n l e) = rw l (enter-stops (heldDeath address a s) a n s ds (death-some (heldDeath address a s) n e .0))
+  sender-refuses a _ s ds (sender-enters n l e) = rw (l, death-some (heldDeath address a s) n e .1) (enter-stops (heldDeath address a s) a n s ds (death-some (heldDeath address a s) n e .0))
 
   admit-refuses : (a : A) (s : Node A) (ds : List ℕ) → Refuses (admitStops address a s ds) (handler.admit address a s ds)
   unfolding handler.admit
@@ -167,18 +183,19 @@ module _ {A : Type 0} (address : Address A) where
   pick-refuses e wanted s ds = reading-refuses (pick-reading (address .same) (address .blank) (s .own) e wanted (s .members) ds)
 
   pub step-refuses : (st : WaitState A) (now : ℕ) (s : Node A) (ds : List ℕ) → Refuses (stepStops address st s ds) (D.step address st now s ds)
-  unfolding D.sendPing D.waited D.sendPingReq D.suspect D.pickGroup D.declare M.emit M.pushed M.change list.update pickReads
+  unfolding D.sendPing D.waited D.sendPingReq D.suspect D.pickGroup D.declare M.emit M.pushed M.change list.update pickReads partsOf
   step-refuses SendingPing now s ds = then ((ltb (length ds) (pingReads address s ds), DrawsShort) ∷ []) (pick-refuses none 1 s ds) (λ p rest. goes tt)
   step-refuses (WaitingForPingAck a n) now s ds = goes tt
   step-refuses (SendingPingReq a n) now s ds =
       let group : ℕ = s .settings .«ping_req_group_size» in
-      tested-twice (heapFull kind.Alive s) _ ds _ _
-      (then ((ltb (length ds) (groupReads address a s ds), DrawsShort) ∷ []) (pick-refuses (some a) group (M.change address a state.Suspected n s) ds) (λ p rest. goes tt))
+      rw (sym (held-is kind.Alive (record { event = Suspected (s .own) a n }) s))
+      (tested-twice (leb 128 (length (M.heapOf kind.Alive (M.collecting address (s .settings .collect) kind.Alive (record { event = Suspected (s .own) a n }) (s .disseminator))))) _ ds _ _
+      (then ((ltb (length ds) (groupReads address a s ds), DrawsShort) ∷ []) (pick-refuses (some a) group (M.change address a state.Suspected n s) ds) (λ p rest. goes tt)))
   step-refuses (WaitingForPingReqAck a n) now s ds = goes tt
   step-refuses (Declaring a n) now s ds = tested (timersFull s) (goes tt)
 
   fate-refuses : (v : Fate) (t : Timer A) (ts : List (Timer A)) (s : Node A) (ds : List ℕ) → Refuses (endStops v s) (calls.reports address (D.byFate address v t (M.withTimers s ts) ds))
-  unfolding D.byFate M.leave
+  unfolding D.byFate M.leave partsOf
   fate-refuses Leaves t ts s ds = then (endStops Leaves s) (emit-refuses kind.Deceased _ (M.leave address (t .addr) (M.withTimers s ts)) ds) (λ o rest. goes tt)
   fate-refuses Stays t ts s ds = then [] (quiet-refuses (M.withTimers s ts) ds) (λ o rest. goes tt)
   fate-refuses Absent t ts s ds = then [] (quiet-refuses (M.withTimers s ts) ds) (λ o rest. goes tt)

@@ -5,7 +5,7 @@ use mathlib.Core.Logic.{_⊎_}
 use mathlib.Core.Bool.{Bool, true, false, not, _&&_, _||_}
 use mathlib.Core.List.{List, [], _∷_}
 use mathlib.Core.Option.{Option, none, some}
-use Prim.Native.Nat.{ℕ, _+_, max, _≤_, _<_}
+use Prim.Native.Nat.{ℕ, _+_, _-_, max, _≤_, _<_}
 use lib.ListN.{length, getD, take}
 use lib.Dec.{leb, ltb}
 use Rattle.model.specs.declared.Kind.{Kind}
@@ -14,26 +14,32 @@ use Rattle.model.specs.declared.Fate.{Fate}
 use Rattle.model.specs.declared.Fate.the-variants.{Leaves, Stays, Absent}
 use Rattle.model.specs.declared.Refusal.{Refusal}
 use Rattle.model.specs.declared.Refusal.the-variants.{NumberEnd, ListFull, DrawsShort, AliveFull, TimersFull, DeceasedFull}
-use Rattle.model.specs.Rows.{pick, every, isEmpty}
+use Rattle.model.specs.Rows.{pick, count, every, isEmpty}
 use Rattle.model.specs.Bounds.{list-places, heap-places, timer-places, last-number}
 use Rattle.model.specs.Answers.{done, fullOf}
-use Rattle.model.specs.Words.{Address, isAlive, Event, Nothing, Joined, Recovered, Suspected, Deceased, Gossip, nothing, Timer, Action, Ping, WaitState, SendingPing, WaitingForPingAck, SendingPingReq, WaitingForPingReqAck, Declaring}
-use Rattle.model.specs.Node.{heapOf, Node, Out, lists, numbered, stateOf, heldDeath}
+use Rattle.model.specs.Words.{Address, isAlive, partsOf, Event, Nothing, Joined, Recovered, Suspected, Deceased, Gossip, nothing, Timer, Action, Ping, WaitState, SendingPing, WaitingForPingAck, SendingPingReq, WaitingForPingReqAck, Declaring}
+use Rattle.model.specs.Node.{Node, Out, lists, numbered, stateOf, heldDeath}
 use Rattle.model.specs.Handler.{believed, gossip}
 use Rattle.model.specs.Detector.{isOver, firstOver, timerAt}
 use Rattle.promises.specs.Firsts.{FirstFails}
 use Rattle.promises.specs.Reads.{pickReads}
 
+-- an event that is pushed: the heap that it goes to, whom it is about, and its number
+pub record Push (A : Type 0) : Type 0 where
+  pub heap : Kind
+  pub about : A
+  pub number : ℕ
+
 -- what a gossip item, or a Ping's admission, asks for
-pub record Wants : Type 0 where
+pub record Wants (A : Type 0) : Type 0 where
   -- 6: one more than a number
   pub plus-one : Option ℕ
   -- 7, 8: that an address is added, at a place that is drawn
   pub adds : Bool
-  -- 9 or 13: that an event is pushed, and to which heap
-  pub pushes : Option Kind
+  -- 9 or 13: that an event is pushed
+  pub pushes : Option (Push A)
 
-abbrev pub nothingWanted : Wants
+abbrev pub nothingWanted : {A : Type 0} → Wants A
 nothingWanted = record { plus-one = none; adds = false; pushes = none }
 
 -- "D + 1 or 0"
@@ -47,28 +53,21 @@ atEnd none = false
 atEnd (some n) = leb last-number n
 
 -- an event is pushed if a condition holds
-abbrev pub pushIf : Bool → Kind → Option Kind
-pushIf u heap = pick u (some heap) none
+abbrev pub pushIf : {A : Type 0} → Bool → Kind → A → ℕ → Option (Push A)
+pushIf u heap a n = pick u (some (record { heap = heap; about = a; number = n })) none
 
 -- and nothing else is asked for
-abbrev pub pushOnlyIf : Bool → Kind → Wants
-pushOnlyIf u heap = record { plus-one = none; adds = false; pushes = pushIf u heap }
+abbrev pub pushOnlyIf : {A : Type 0} → Bool → Kind → A → ℕ → Wants A
+pushOnlyIf u heap a n = record { plus-one = none; adds = false; pushes = pushIf u heap a n }
 
 -- the refusal of the heap that an event is pushed to; without an event there is none
-abbrev pub fullFor : Option Kind → Refusal
+abbrev pub fullFor : {A : Type 0} → Option (Push A) → Refusal
 fullFor none = AliveFull
-fullFor (some heap) = fullOf heap
+fullFor (some p) = fullOf (p .heap)
 
 module _ {A : Type 0} where
   abbrev pub listFull : Node A → Bool
   listFull s = leb list-places (length (s .members .table))
-
-  abbrev pub heapFull : Kind → Node A → Bool
-  heapFull heap s = leb heap-places (length (heapOf heap (s .disseminator)))
-
-  abbrev pub noRoom : Option Kind → Node A → Bool
-  noRoom none s = false
-  noRoom (some heap) s = heapFull heap s
 
   abbrev pub timersFull : Node A → Bool
   timersFull s = leb timer-places (length (s .timers))
@@ -77,8 +76,34 @@ module _ {A : Type 0} where
   abbrev pub addStops : Node A → List ℕ → List (Bool × Refusal)
   addStops s ds = (listFull s, ListFull) ∷ (isEmpty ds, DrawsShort) ∷ []
 
+  -- an ended timer, by the fate of its address: if it leaves, Deceased is emitted, 13
+  abbrev pub endStops : Fate → Node A → List (Bool × Refusal)
+  endStops Leaves s = (leb heap-places (length (s .disseminator .deceased)), DeceasedFull) ∷ []
+  endStops Stays s = []
+  endStops Absent s = []
+
+module _ {A : Type 0} (address : Address A) where
+  -- "every event about X with a lower number": so many of the alive heap go where collecting is on
+  abbrev pub stale : A → ℕ → Node A → ℕ
+  stale a n s =
+      pick (s .settings .collect)
+      (count (λ e. address .same a (partsOf address (e .gossip .event) .subject) && ltb (partsOf address (e .gossip .event) .number) n) (s .disseminator .alive))
+      0
+
+  -- how many entries a heap holds when an event about an address, at a number, comes to it: "Freed places are used before 9 is given."
+  abbrev pub heldIn : Kind → A → ℕ → Node A → ℕ
+  heldIn kind.Alive a n s = length (s .disseminator .alive) - stale a n s
+  heldIn kind.Deceased a n s = length (s .disseminator .deceased)
+
+  abbrev pub heapFull : Kind → A → ℕ → Node A → Bool
+  heapFull heap a n s = leb heap-places (heldIn heap a n s)
+
+  abbrev pub noRoom : Option (Push A) → Node A → Bool
+  noRoom none s = false
+  noRoom (some p) s = heapFull (p .heap) (p .about) (p .number) s
+
   -- "Within one gossip item or ping admission: 6, 7, 8, 9", and 13 in 9's place
-  abbrev pub wantsStops : Wants → Node A → List ℕ → List (Bool × Refusal)
+  abbrev pub wantsStops : Wants A → Node A → List ℕ → List (Bool × Refusal)
   wantsStops w s ds =
       (atEnd (w .plus-one), NumberEnd)
       ∷ (w .adds && listFull s, ListFull)
@@ -86,30 +111,28 @@ module _ {A : Type 0} where
       ∷ (noRoom (w .pushes) s, fullFor (w .pushes))
       ∷ []
 
-  -- an ended timer, by the fate of its address: if it leaves, Deceased is emitted, 13
-  abbrev pub endStops : Fate → Node A → List (Bool × Refusal)
-  endStops Leaves s = (heapFull kind.Deceased s, DeceasedFull) ∷ []
-  endStops Stays s = []
-  endStops Absent s = []
-
-module _ {A : Type 0} (address : Address A) where
   -- what a gossip item asks for, by the handler's rules
-  abbrev pub itemWants : Event A → Node A → Wants
+  abbrev pub itemWants : Event A → Node A → Wants A
   itemWants Nothing s = nothingWanted
   itemWants (Joined f a n) s =
       let d = heldDeath address a s in
       let absent = not (lists address a s) in
-      record { plus-one = d; adds = absent; pushes = pushIf (absent || ltb (numbered address a s) (max (plusOneOr0 d) n)) kind.Alive }
-  itemWants (Recovered f a n) s = pushOnlyIf (lists address a s && ltb (numbered address a s) n) kind.Alive
+      let number = max (plusOneOr0 d) n in
+      record { plus-one = d; adds = absent; pushes = pushIf (absent || ltb (numbered address a s) number) kind.Alive a number }
+  itemWants (Recovered f a n) s = pushOnlyIf (lists address a s && ltb (numbered address a s) n) kind.Alive a n
   itemWants (Suspected f a n) s =
       pick (address .same (s .own) a)
-      (record { plus-one = some n; adds = false; pushes = some kind.Alive })
-      (pushOnlyIf (lists address a s && believed (stateOf address a s) (numbered address a s) n) kind.Alive)
-  itemWants (Deceased f a n) s = pushOnlyIf (lists address a s && leb (numbered address a s) n) kind.Deceased
+      (record { plus-one = some n; adds = false; pushes = some (record { heap = kind.Alive; about = s .own; number = n + 1 }) })
+      (pushOnlyIf (lists address a s && believed (stateOf address a s) (numbered address a s) n) kind.Alive a n)
+  itemWants (Deceased f a n) s = pushOnlyIf (lists address a s && leb (numbered address a s) n) kind.Deceased a n
 
   -- what a Ping's sender asks for: nothing if it is listed
-  abbrev pub admitWants : A → Node A → Wants
-  admitWants a s = pick (lists address a s) nothingWanted (record { plus-one = heldDeath address a s; adds = true; pushes = some kind.Alive })
+  abbrev pub admitWants : A → Node A → Wants A
+  admitWants a s =
+      let d = heldDeath address a s in
+      pick (lists address a s)
+      nothingWanted
+      (record { plus-one = d; adds = true; pushes = some (record { heap = kind.Alive; about = a; number = plusOneOr0 d }) })
 
   abbrev pub itemStops : Event A → Node A → List ℕ → List (Bool × Refusal)
   itemStops e s ds = wantsStops (itemWants e s) s ds
@@ -128,7 +151,7 @@ module _ {A : Type 0} (address : Address A) where
   abbrev pub stepStops : WaitState A → Node A → List ℕ → List (Bool × Refusal)
   stepStops SendingPing s ds = (ltb (length ds) (pingReads s ds), DrawsShort) ∷ []
   stepStops (WaitingForPingAck a n) s ds = []
-  stepStops (SendingPingReq a n) s ds = (heapFull kind.Alive s, AliveFull) ∷ (ltb (length ds) (groupReads a s ds), DrawsShort) ∷ []
+  stepStops (SendingPingReq a n) s ds = (heapFull kind.Alive a n s, AliveFull) ∷ (ltb (length ds) (groupReads a s ds), DrawsShort) ∷ []
   stepStops (WaitingForPingReqAck a n) s ds = []
   stepStops (Declaring a n) s ds = (timersFull s, TimersFull) ∷ []
 
@@ -159,14 +182,14 @@ module _ {A : Type 0} where
   StepTimersFull st s = (a : A) × (n : ℕ) × (st ≡ Declaring a n) × (timer-places ≤ length (s .timers))
 
   -- "an event is to be pushed to a full heap"
-  abbrev pub StepHeapFull : WaitState A → Node A → Type 0
-  StepHeapFull st s = (a : A) × (n : ℕ) × (st ≡ SendingPingReq a n) × (heap-places ≤ length (s .disseminator .alive))
+  abbrev pub StepHeapFull : Address A → WaitState A → Node A → Type 0
+  StepHeapFull address st s = (a : A) × (n : ℕ) × (st ≡ SendingPingReq a n) × (heap-places ≤ heldIn address kind.Alive a n s)
 
   -- "a draw is needed past the end of the draws": by the ping's pick, or by the group's if the alive heap has room
   abbrev pub StepDrawsShort : Address A → WaitState A → Node A → List ℕ → Type 0
   StepDrawsShort address st s ds =
       ((st ≡ SendingPing) × (length ds < pingReads address s ds))
-      ⊎ ((a : A) × (n : ℕ) × (st ≡ SendingPingReq a n) × (length (s .disseminator .alive) < heap-places) × (length ds < groupReads address a s ds))
+      ⊎ ((a : A) × (n : ℕ) × (st ≡ SendingPingReq a n) × (heldIn address kind.Alive a n s < heap-places) × (length ds < groupReads address a s ds))
 
   -- "an ended timer removes its address only if it is listed, not Alive, and its number is no greater than the timer's"
   abbrev pub Removes : Address A → Timer A → Node A → Type 0

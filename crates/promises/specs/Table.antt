@@ -106,7 +106,7 @@ module _ (node : Node) (wait : Wait) (tick : ℕ) (draws : List ℕ) (gossip eve
   step-8 = plainly (step-stops DrawsShort (omega arith)) (step-draws-short here (handed node) draws (toWait wait .state))
 
   -- the suspicion's event finds the alive heap full
-  pub step-9 : (replyNumber (r .answer .reply) ≡ 9) ↔ (StepPassed × (due (node .settings) (toWait wait) tick ≡ true) × StepHeapFull (toWait wait .state) (handed node))
+  pub step-9 : (replyNumber (r .answer .reply) ≡ 9) ↔ (StepPassed × (due (node .settings) (toWait wait) tick ≡ true) × StepHeapFull here (toWait wait .state) (handed node))
   step-9 = plainly (step-stops AliveFull (omega arith)) (step-heap-full here (handed node) draws (toWait wait .state))
 
   -- the declaration finds 16 timers running

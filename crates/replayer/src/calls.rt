@@ -5,10 +5,12 @@ use crate::tells::tell;
 use address::Address;
 use model::Reply;
 use model::Settings;
+use node::Answer;
 use node::Node;
 use report::put_reply;
 use show::least;
 use show::put_answer;
+use show::put_collected;
 use show::put_events;
 use show::put_grounds;
 use show::put_one;
@@ -144,7 +146,8 @@ fn add(host: Host, peer: Address, number: u64, draws: &[u64], out: &mut [u8]) ->
     let answer = swim::add_peer(before, peer, number, draws);
     let reply = answer.reply;
     let after = answer.node;
-    let at = put_reply(out, host.unwritten, reply);
+    let told = put_reply(out, host.unwritten, reply);
+    let at = put_collected(out, told, answer);
     host.shown(after, wait, at, out)
 }
 
@@ -158,6 +161,18 @@ fn one_longer(rows: [Gossip; 64]) -> [Gossip; 65] {
         i += 1;
     }
     out
+}
+
+// The events of a message's call, and what it collected.
+fn put_heard(
+    out: &mut [u8],
+    at: usize,
+    answer: Answer,
+    events: [Gossip; 65],
+    reported: usize,
+) -> usize {
+    let told = put_events(out, at, events, least(reported, 65));
+    put_collected(out, told, answer)
 }
 
 fn receive(host: Host, action: Action, records: Records, draws: &[u64], out: &mut [u8]) -> Host {
@@ -186,7 +201,7 @@ fn receive(host: Host, action: Action, records: Records, draws: &[u64], out: &mu
     let events = received.events;
     let after = answer.node;
     let sent = put_answer(out, host.unwritten, answer, widen(gossip));
-    let at = put_events(out, sent, events, least(received.reported, 65));
+    let at = put_heard(out, sent, answer, events, received.reported);
     host.shown(after, wait, at, out)
 }
 
@@ -215,7 +230,8 @@ fn step(host: Host, now: u32, draws: &[u64], out: &mut [u8]) -> Host {
     let wait = stepped.wait;
     let after = answer.node;
     let sent = put_answer(out, host.unwritten, answer, gossip);
-    let at = put_one(out, sent, events, stepped.reported);
+    let told = put_one(out, sent, events, stepped.reported);
+    let at = put_collected(out, told, answer);
     host.shown(after, wait, at, out)
 }
 
@@ -233,8 +249,9 @@ fn end_timer(host: Host, now: u32, out: &mut [u8]) -> Host {
     let events = ended.events;
     let reply = answer.reply;
     let after = answer.node;
-    let told = put_reply(out, host.unwritten, reply);
-    let at = put_one(out, told, events, ended.reported);
+    let replied = put_reply(out, host.unwritten, reply);
+    let told = put_one(out, replied, events, ended.reported);
+    let at = put_collected(out, told, answer);
     host.shown(after, wait, at, out)
 }
 

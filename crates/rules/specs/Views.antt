@@ -1,12 +1,15 @@
 -- How the code's verdicts and news carry the model's: what `from` made, `to` undoes.
 -- Assumes nothing.
 use mathlib.Core.Path.{_≡_, refl, ap}
+use mathlib.Core.Bool.{Bool}
 use mathlib.Core.List.{List}
 use mathlib.Core.Option.{Option, none, some}
 use Prim.Native.Nat.{ℕ, _-_}
 use lib.ListN.{length, drop}
 use Rattle.model.specs.declared.Drew.the-variants.{Used}
 use Rattle.address.specs.Here.{Addr, here}
+use Rattle.model.specs.Words as W
+use Rattle.model.specs.Collect.{collects}
 use Rattle.model.specs.Handler as M
 use Rattle.types.specs.Views.{toEvent, fromEvent, to-from-event}
 use Rattle.disseminate.specs.declared.Found.{Found}
@@ -78,6 +81,11 @@ toNews (Emits k e) = M.Emits k (toEvent e)
 pub to-from-news : (n : M.News Addr) → toNews (fromNews n) ≡ n
 to-from-news M.Silent = refl
 to-from-news (M.Emits k e) = ap (M.Emits k) (to-from-event e)
+
+-- how many held events news outdates, where collecting is on
+abbrev pub collectsFor : Bool → M.News Addr → List (W.Entry Addr) → ℕ
+collectsFor on M.Silent h = 0
+collectsFor on (M.Emits k e) h = collects here on k (record { event = e }) h
 
 -- no draw was needed
 abbrev pub stayed : Members → Kept

@@ -1,6 +1,8 @@
 // The rules of an event: the verdict on it, what that does to the list, and what is said of it.
 use address::Address;
 use disseminate::Found;
+use disseminate::collect;
+use heap::Heap;
 use member::Kept;
 use member::Member;
 use member::Members;
@@ -9,6 +11,7 @@ use model::Kind;
 use model::Refusal;
 use model::State;
 use types::Event;
+use types::Gossip;
 ghost use mathlib.Core.Path.{_≡_};
 ghost use mathlib.Core.Bool.{_&&_, not};
 ghost use Prim.Native.Nat.{_≤_};
@@ -21,9 +24,10 @@ ghost use Rattle.model.specs.Node.{plusOne, deathPlusOne};
 ghost use Rattle.model.specs.Members as list;
 ghost use Rattle.model.specs.Handler as handler;
 ghost use Rattle.types.specs.Views.{toEvent};
+ghost use Rattle.heap.specs.Views.{heapView, Packed};
 ghost use Rattle.disseminate.specs.Views.{fromFound};
 ghost use Rattle.member.specs.Views.{viewMembers, packMembers, Held, Counted};
-ghost use Rattle.rules.specs.Views.{toFound, fromVerdict, toVerdict, fromNews, stayed, listAfterOf};
+ghost use Rattle.rules.specs.Views.{toFound, fromVerdict, toVerdict, fromNews, toNews, collectsFor, stayed, listAfterOf};
 
 // What an event comes to. Nothing happens: there is none, the address is unknown, a suspicion's number equals that of a peer that isn't Alive, or the number is not high enough.
 // Or a number plus one is needed and there is none. Or the own address refutes a suspicion; an address comes in; a listed one is raised, recovers, is suspected or dies.
@@ -318,5 +322,17 @@ pub fn news_of(verdict: Verdict, own: Address) -> News
             kind: Kind::Deceased,
             event: Event::new_node_deceased(own, addr, number),
         },
+    }
+}
+
+// How many held events news outdates, where collecting is on.
+pub fn old_news(on: bool, alive: Heap, news: News) -> usize
+    requires { ⌜ Packed alive ⌝ }
+    ensures { λ r. ⌜ r ≡ collectsFor on (toNews news) (heapView alive) ⌝ }
+    ensures within { λ r. ⌜ r ≤ alive .len ⌝ }
+{
+    match news {
+        News::Silent => 0,
+        News::Emits { kind, event } => collect::old_news(on, alive, kind, Gossip { event }),
     }
 }

@@ -1,6 +1,7 @@
 -- Worked images, one of each version, byte by byte: the mark, the version, the own address, the count, the places, the position.
 -- Assumes nothing.
 use mathlib.Core.Path.{_≡_, refl}
+use mathlib.Core.Bool.{false}
 use mathlib.Core.List.{List, [], _∷_, _++_}
 use Prim.Native.Nat.{ℕ}
 use lib.ListN.{replicate}
@@ -73,7 +74,7 @@ worked-image-2 = refl
 
 -- "for restore, in this order, 14 .., 15 .., 16 .., then 1": each beside what comes after it, with settings that are out of range
 abbrev pub outside : Settings
-outside = record { «ping_interval» = 1; «ping_timeout» = 1; «ping_req_timeout» = 1; «suspect_timeout» = 1; «ping_req_group_size» = 1; «send_constant» = 3; «max_selected» = 6; «max_size» = 0 }
+outside = record { «ping_interval» = 1; «ping_timeout» = 1; «ping_req_timeout» = 1; «suspect_timeout» = 1; «ping_req_group_size» = 1; «send_constant» = 3; «max_selected» = 6; «max_size» = 0; collect = false }
 
 abbrev pub told : List ℕ → Created Addr
 told bytes = restore here versions bytes outside

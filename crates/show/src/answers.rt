@@ -1,10 +1,12 @@
 // An answer's messages and events as text.
 use crate::state::least;
+use model::Reply;
 use node::Answer;
 use node::Letter;
 use report::put_byte;
 use report::put_bytes;
 use report::put_message;
+use report::put_number;
 use report::put_record;
 use report::put_reply;
 use types::Event;
@@ -101,6 +103,20 @@ pub fn put_one(out: &mut [u8], at: usize, events: [Gossip; 1], reported: usize) 
     let g = events[0];
     let event = g.event;
     put_event(out, at, event)
+}
+
+// How many held events a kept call collected, where the node collects.
+pub fn put_collected(out: &mut [u8], at: usize, answer: Answer) -> usize {
+    if !answer.node.settings.collect {
+        return at;
+    }
+    let reply = answer.reply;
+    let Reply::Done(_) = reply else {
+        return at;
+    };
+    let mark = put_bytes(out, at, b"~ ");
+    let number = put_number(out, mark, answer.collected as u64);
+    put_byte(out, number, b'\n')
 }
 
 // A message's row, at the length of a step's row.

@@ -6,6 +6,7 @@ mod salvaged;
 mod state;
 
 pub use answers::put_answer;
+pub use answers::put_collected;
 pub use answers::put_events;
 pub use answers::put_one;
 pub use answers::widen;

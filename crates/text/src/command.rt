@@ -77,7 +77,7 @@ pub struct Head {
     pub next: usize,
 }
 
-// The eight settings of a `new` or a `restore` line.
+// The eight numbers among the settings of a `new` or a `restore` line.
 pub struct Ticks {
     pub values: [u32; 8],
     pub next: usize,
@@ -114,7 +114,29 @@ fn ticks_at(s: &[u8], from: usize) -> Ticks {
     }
 }
 
-fn settings_of(values: [u32; 8]) -> Settings {
+// The settings that are words, at the end of such a line.
+pub struct Options {
+    pub collect: bool,
+    pub next: usize,
+}
+
+pub fn options_at(s: &[u8], at: usize) -> Options {
+    if at <= s.len() {
+        let end = find(s, at, b' ');
+        if check::same(&s[at..end], b"collect") {
+            return Options {
+                collect: true,
+                next: end + 1,
+            };
+        }
+    }
+    Options {
+        collect: false,
+        next: at,
+    }
+}
+
+fn settings_of(values: [u32; 8], collect: bool) -> Settings {
     Settings {
         ping_interval: values[0],
         ping_timeout: values[1],
@@ -124,6 +146,7 @@ fn settings_of(values: [u32; 8]) -> Settings {
         send_constant: values[5] as usize,
         max_selected: values[6] as usize,
         max_size: values[7] as usize,
+        collect,
     }
 }
 
@@ -147,20 +170,28 @@ fn new_at(s: &[u8], at: usize) -> Head {
     else {
         return malformed();
     };
-    let TickAt::Found { value: tick, next } = tick_at(s, after_number) else {
+    let TickAt::Found {
+        value: tick,
+        next: after_tick,
+    } = tick_at(s, after_number)
+    else {
         return malformed();
     };
-    let settings = settings_of(values);
+    let options = options_at(s, after_tick);
+    let settings = settings_of(values, options.collect);
     let command = Command::New {
         settings,
         own,
         number,
         tick,
     };
-    Head { command, next }
+    Head {
+        command,
+        next: options.next,
+    }
 }
 
-// Settings and a tick; the image follows.
+// Settings and a tick; the image follows, and behind it the settings that are words.
 fn restore_at(s: &[u8], at: usize) -> Head {
     let ticks = ticks_at(s, at);
     if !ticks.is_whole {
@@ -170,7 +201,7 @@ fn restore_at(s: &[u8], at: usize) -> Head {
     let TickAt::Found { value: tick, next } = tick_at(s, ticks.next) else {
         return malformed();
     };
-    let settings = settings_of(values);
+    let settings = settings_of(values, false);
     let command = Command::Restore { settings, tick };
     Head { command, next }
 }

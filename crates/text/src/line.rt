@@ -1,6 +1,7 @@
 // A whole line of a script.
 use crate::command::Command;
 use crate::command::head_of;
+use crate::command::options_at;
 use crate::records::Records;
 use crate::records::no_records;
 use crate::records::records_at;
@@ -30,6 +31,7 @@ pub enum Tail {
     Draws,
     Message,
     Bytes,
+    Image,
     Records,
 }
 
@@ -58,7 +60,7 @@ fn tail_of(command: Command) -> Tail {
         Command::Restore {
             settings: _,
             tick: _,
-        } => Tail::Bytes,
+        } => Tail::Image,
         Command::Salvage { room: _ } => Tail::Bytes,
     }
 }
@@ -155,6 +157,33 @@ fn with_bytes(command: Command, s: &[u8], at: usize, bytes: &mut [u8]) -> Line {
     }
 }
 
+// A restart with the settings that are words.
+fn chosen(command: Command, collect: bool) -> Command {
+    let Command::Restore { mut settings, tick } = command else {
+        return command;
+    };
+    settings.collect = collect;
+    Command::Restore { settings, tick }
+}
+
+// One word of bytes, and the settings that are words.
+fn with_image(command: Command, s: &[u8], at: usize, bytes: &mut [u8]) -> Line {
+    let BytesAt::Found { length, next } = bytes_at(s, at, bytes) else {
+        return no_line();
+    };
+    let options = options_at(s, next);
+    if options.next <= s.len() {
+        return no_line();
+    }
+    let records = no_records();
+    Line {
+        command: chosen(command, options.collect),
+        records,
+        drawn: 0,
+        length,
+    }
+}
+
 fn at_end(command: Command, s: &[u8], at: usize) -> Line {
     if s.len() < at {
         let records = no_records();
@@ -178,6 +207,7 @@ pub fn read_line(s: &[u8], draws: &mut [u64], bytes: &mut [u8]) -> Line {
         Tail::Draws => after_bar(command, s, next, draws),
         Tail::Message => after_records(command, s, next, draws),
         Tail::Bytes => with_bytes(command, s, next, bytes),
+        Tail::Image => with_image(command, s, next, bytes),
         Tail::Records => with_records(command, s, next),
     }
 }

@@ -41,12 +41,17 @@ use Rattle.timers.specs.declared.Timer.{Timer}
 use Rattle.timers.specs.declared.Timers.{Timers}
 use Rattle.timers.specs.Views.{toTimer, fromTimer, noTimer, timersView, packTimers, endingOf}
 use Rattle.timers.specs.declared.Ending.the-variants.{Nothing, At}
-use Rattle.disseminate.specs.Views.{heldOr, viewDisseminator, Pushed}
+use Rattle.model.specs.Collect.{collects}
+use Rattle.heap.specs.declared.Heap.{Heap}
+use Rattle.heap.specs.Views.{heapView}
+use Rattle.disseminate.specs.declared.Grown.{Grown}
+use Rattle.disseminate.specs.Views.{grown, clearedBy, clearedHeap, Pushes}
+use Rattle.disseminate.proofs.Pushing.{deceased-pushes}
 use Rattle.member.specs.declared.Members.{Members}
 use Rattle.member.specs.declared.Standing.{Standing}
 use Rattle.member.specs.Views.{packMembers, viewMembers, standingOf}
 use Rattle.node.specs.declared.Node.{Node}
-use Rattle.node.specs.Views.{viewNode, packNode, storedView, withMembers, withDisseminator, withTimers, plainAnswer, answerOf}
+use Rattle.node.specs.Views.{viewNode, packNode, storedView, withMembers, withDisseminator, withTimers, silentAnswer, answerOf}
 use Rattle.node.specs.Rows.{Ready, ready-pack, loaded-view, view-pack}
 use Rattle.node.specs.Parts.{part-members, part-timers}
 use Rattle.node.specs.Emitting.{emit-full, emit-kept}
@@ -67,17 +72,18 @@ timer-at : (t : Timers) (i : ℕ) → i < t .len → getD (timersView t) i (W.no
 timer-at t i h = List·getD-map toTimer (take (t .len) (t .entries)) i noTimer ∙ ap toTimer (getD-take (t .len) (t .entries) i noTimer h)
 
 -- an event was reported
-abbrev pub saidEnd : Node → Gossip → Ended
-saidEnd n g = record { answer = plainAnswer (Done 0) n; events = g ∷ []; reported = 1 }
+abbrev pub saidEnd : Node → Gossip → ℕ → Ended
+saidEnd n g collected = record { answer = silentAnswer (Done 0) n collected; events = g ∷ []; reported = 1 }
 
-said-end : (s : M.Node Addr) (n : Node) (g : Gossip) → n ≡ packNode s → saidEnd n g ≡ endedOf (record { reply = Done 0; node = M.stored here s; messages = []; events = toGossip g ∷ [] })
-unfolding endedOf answerOf
-said-end s n g e = λ i. record { answer = kept-is (Done 0) s n e i; events = sym (from-to-gossip g) i ∷ []; reported = 1 }
+said-end : (s : M.Node Addr) (n : Node) (g : Gossip) (collected : ℕ) → n ≡ packNode s
+    → saidEnd n g collected ≡ endedOf (record { reply = Done 0; node = M.stored here s; messages = []; events = toGossip g ∷ []; collected = collected })
+unfolding endedOf
+said-end s n g collected e = λ i. record { answer = kept-is (Done 0) s n (toGossip g ∷ []) collected e i; events = sym (from-to-gossip g) i ∷ []; reported = 1 }
 
 -- nothing was, and the node is another
-quiet-end : (reply : Reply) (s : M.Node Addr) (n : Node) → n ≡ packNode s → plainEnd reply n ≡ endedOf (record { reply = reply; node = M.stored here s; messages = []; events = [] })
+quiet-end : (reply : Reply) (s : M.Node Addr) (n : Node) → n ≡ packNode s → plainEnd reply n ≡ endedOf (record { reply = reply; node = M.stored here s; messages = []; events = []; collected = 0 })
 unfolding endedOf
-quiet-end reply s n e = λ i. record { answer = kept-is reply s n e i; events = replicate 1 noGossip; reported = 0 }
+quiet-end reply s n e = λ i. record { answer = kept-is reply s n [] 0 e i; events = replicate 1 noGossip; reported = 0 }
 
 -- the timer at a used place of a ready node
 module _ (n : Node) (r : Ready n) (i : ℕ) where
@@ -172,8 +178,8 @@ pub record Death : Type 0 where
   pub members-is : members ≡ packMembers (node .own) (list.remove (here .same) (timerAt node place .addr) (viewMembers (node .members)))
   pub gossip : Gossip
   pub named : gossip .event ≡ Deceased (node .own) (timerAt node place .addr) (timerAt node place .number)
-  pub pushed : Pushed
-  pub pushed-is : pushed ≡ heldOr (node .disseminator) (M.pushed here kind.Deceased (toGossip gossip) (viewDisseminator (node .disseminator)) [])
+  pub pushed : Grown
+  pub pushed-is : pushed ≡ grown (node .disseminator .deceased) (toGossip gossip)
 
 module _ (q : Death) where
   abbrev dead : Addr
@@ -216,15 +222,33 @@ module _ (q : Death) where
       ap (λ (x : W.Timer Addr). D.byFate here Leaves x less []) dead-is
       ∙ ap (λ (x : Event). M.emit here kind.Deceased (record { event = toEvent x }) gone []) (sym (q .named))
 
+  abbrev on : Bool
+  on = q .node .settings .collect
+
+  abbrev living : Heap
+  living = q .node .disseminator .alive
+
+  -- both heaps after the push, by what the alive heap became
+  pushes : (h : Heap) → h ≡ clearedHeap on kind.Deceased (toGossip (q .gossip)) living
+      → Pushes on kind.Deceased (toGossip (q .gossip)) (q .node .disseminator) (record { alive = h; deceased = q .pushed .heap }) (q .pushed .full)
+  pushes h e = deceased-pushes (q .node .disseminator) (q .ready .heaps) (toGossip (q .gossip)) on h (q .pushed) e (q .pushed-is)
+
   pub end-full : q .pushed .full ≡ true → plainEnd (Refused DeceasedFull) (q .node) ≡ endedBy Leaves (q .node) (q .place)
+  unfolding viewNode M.leave
   end-full h =
       plain-end (Refused DeceasedFull) (q .node)
-      ∙ sym (ap outcome (ends ∙ emit-full kind.Deceased (toGossip (q .gossip)) [] gone-good gone-is (q .pushed-is) h))
+      ∙ sym (ap outcome (ends ∙ emit-full kind.Deceased (toGossip (q .gossip)) [] gone-good gone-is (pushes _ refl) h))
 
-  pub end-kept : q .pushed .full ≡ false → saidEnd (withDisseminator left (q .pushed .disseminator)) (q .gossip) ≡ endedBy Leaves (q .node) (q .place)
-  end-kept h =
-      let k = emit-kept kind.Deceased (toGossip (q .gossip)) [] gone-good gone-is (q .pushed-is) h in
-      said-end (k .after) (withDisseminator left (q .pushed .disseminator)) (q .gossip) (k .node) ∙ sym (ap outcome (ends ∙ k .is))
+  module _ (old : ℕ) (alive : Heap) (old-is : old ≡ collects here on kind.Deceased (toGossip (q .gossip)) (heapView living)) (alive-is : alive ≡ clearedBy old kind.Deceased (toGossip (q .gossip)) living) where
+    abbrev after : Node
+    after = withDisseminator left (record { alive = alive; deceased = q .pushed .heap })
+
+    pub end-kept : q .pushed .full ≡ false → saidEnd after (q .gossip) old ≡ endedBy Leaves (q .node) (q .place)
+    unfolding viewNode M.leave
+    end-kept h =
+        let e = alive-is ∙ ap (λ (n : ℕ). clearedBy n kind.Deceased (toGossip (q .gossip)) living) old-is in
+        let k = emit-kept kind.Deceased (toGossip (q .gossip)) [] gone-good gone-is (pushes alive e) h in
+        ap (saidEnd after (q .gossip)) old-is ∙ said-end (k .after) after (q .gossip) _ (k .node) ∙ sym (ap outcome (ends ∙ k .is))
 
 -- "a timer call 0 and 1": the row of events alone can be short
 pub timer-short : (lent : Room) → lent .events < 1 → short timer-room lent ≡ true

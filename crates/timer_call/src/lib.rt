@@ -1,7 +1,9 @@
 // The timer call: the earliest started timer that is over ends.
 use disseminate::Disseminator;
+use disseminate::collect;
 use member::Members;
 use model::Fate;
+use model::Kind;
 use model::Refusal;
 use model::Reply;
 use node::Answer;
@@ -81,7 +83,7 @@ fn only_end(node: Node, place: usize, reply: Reply) -> Ended
     Ended::plain(reply, node.with_timers(after))
 }
 
-// The timer at a place ends and its address leaves: Deceased is emitted at the timer's number.
+// The timer at a place ends and its address leaves: Deceased is emitted at the timer's number, and outdates what is held of the living.
 fn remove_at(node: Node, place: usize) -> Ended
     requires { ⌜ Ready node × (place < node .timers .len) × (lists here (D.timerAt here place (viewNode node) .addr) (viewNode node) ≡ true) ⌝ }
     ensures { λ r. ⌜ (r ≡ endedBy Fate.Leaves node place) × (r .reported ≤ 1) ⌝ }
@@ -101,7 +103,9 @@ fn remove_at(node: Node, place: usize) -> Ended
     }
     let settings = node.settings;
     let own = node.own;
-    let alive = node.disseminator.alive;
+    let held = node.disseminator.alive;
+    let old = collect::old_news(settings.collect, held, Kind::Deceased, gossip);
+    let alive = collect::clear(held, old, Kind::Deceased, gossip);
     let deceased = pushed.heap;
     let said = Node {
         settings,
@@ -112,7 +116,7 @@ fn remove_at(node: Node, place: usize) -> Ended
     };
     let events = [gossip; Ended::EVENTS];
     Ended {
-        answer: Answer::plain(Reply::Done(0), said),
+        answer: Answer::silent(Reply::Done(0), said, old),
         events,
         reported: 1,
     }

@@ -25,6 +25,7 @@ fn settings() -> Settings {
         send_constant: 3,
         max_selected: 6,
         max_size: 1169,
+        collect: false,
     }
 }
 
@@ -164,7 +165,8 @@ fn setting(mut settings: Settings, which: u64, value: u64) -> Settings {
         4 => settings.ping_req_group_size = value as usize,
         5 => settings.send_constant = value as usize,
         6 => settings.max_selected = value as usize,
-        _ => settings.max_size = value as usize,
+        7 => settings.max_size = value as usize,
+        _ => settings.collect = value != 0,
     }
     settings
 }

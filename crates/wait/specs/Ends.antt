@@ -42,11 +42,11 @@ plain-gives e f = record { is = e ∙ f; written = omega (arith, ap (λ (x : Ste
 
 -- a kept step that sends nothing
 pub kept-step : (used : ℕ) (s : M.Node Addr) (n : Node) (w : W.Wait Addr) (v : Wait) → n ≡ packNode s → v ≡ fromWait w
-    → plainStep (Done used) n v ≡ steppedOf (keptOf used (record { effect = record { node = s; messages = []; events = [] }; wait = w }))
+    → plainStep (Done used) n v ≡ steppedOf (keptOf used (record { effect = record { node = s; messages = []; events = []; collected = 0 }; wait = w }))
 unfolding steppedOf
 kept-step used s n w v e f =
     λ i. record {
-      answer = kept-is (Done used) s n e i;
+      answer = kept-is (Done used) s n [] 0 e i;
       wait = f i;
       gossip = replicate 256 noGossip;
       written = 0;
@@ -55,13 +55,13 @@ kept-step used s n w v e f =
     }
 
 -- a kept step of rows is the model's
-pub kept-rows : (used : ℕ) (n : Node) (m : Mail) (w : Wait) (es : List Gossip) (k : ℕ) (s : M.Node Addr) (ms : List (W.Message Addr)) (gs : List (W.Gossip Addr)) (v : W.Wait Addr)
+pub kept-rows : (used : ℕ) (n : Node) (m : Mail) (w : Wait) (es : List Gossip) (k : ℕ) (s : M.Node Addr) (ms : List (W.Message Addr)) (gs : List (W.Gossip Addr)) (collected : ℕ) (v : W.Wait Addr)
     → n ≡ packNode s → m ≡ mailOf ms → w ≡ fromWait v → es ≡ padTo 1 noGossip (map fromGossip gs) → k ≡ length gs
-    → keptRows used n m w es k ≡ steppedOf (keptOf used (record { effect = record { node = s; messages = ms; events = gs }; wait = v }))
+    → keptRows used n m w es k collected ≡ steppedOf (keptOf used (record { effect = record { node = s; messages = ms; events = gs; collected = collected }; wait = v }))
 unfolding steppedOf answerOf mailOf
-kept-rows used n m w es k s ms gs v e f g h l =
+kept-rows used n m w es k s ms gs collected v e f g h l =
     λ i. record {
-      answer = record { reply = Done used; node = (e ∙ sym (unstored-pack s)) i; letters = f i .letters; sent = f i .sent };
+      answer = record { reply = Done used; node = (e ∙ sym (unstored-pack s)) i; letters = f i .letters; sent = f i .sent; collected = collected };
       wait = g i;
       gossip = f i .gossip;
       written = f i .written;

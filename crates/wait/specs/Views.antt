@@ -95,7 +95,7 @@ plainStep reply n w =
 abbrev pub keptOf : ℕ → D.Stepped Addr → calls.StepOutcome Addr
 keptOf used e =
     record {
-      outcome = record { reply = Done used; node = M.stored here (e .effect .node); messages = e .effect .messages; events = e .effect .events };
+      outcome = record { reply = Done used; node = M.stored here (e .effect .node); messages = e .effect .messages; events = e .effect .events; collected = e .effect .collected };
       wait = e .wait;
     }
 
@@ -125,10 +125,10 @@ posted m target action rows count =
     }
 
 -- a kept step of rows
-abbrev pub keptRows : ℕ → Node → Mail → Wait → List Gossip → ℕ → Stepped
-keptRows used n m w events reported =
+abbrev pub keptRows : ℕ → Node → Mail → Wait → List Gossip → ℕ → ℕ → Stepped
+keptRows used n m w events reported collected =
     record {
-      answer = record { reply = Done used; node = n; letters = m .letters; sent = m .sent };
+      answer = record { reply = Done used; node = n; letters = m .letters; sent = m .sent; collected = collected };
       wait = w;
       gossip = m .gossip;
       written = m .written;

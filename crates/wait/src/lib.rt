@@ -73,7 +73,7 @@ impl Stepped {
         }
     }
 
-    // A step that is kept, with what it sends and reports.
+    // A step that is kept, with what it sends and reports, and how many held events it collected.
     pub fn kept(
         used: usize,
         node: Node,
@@ -81,8 +81,9 @@ impl Stepped {
         wait: Wait,
         events: [Gossip; Stepped::EVENTS],
         reported: usize,
+        collected: usize,
     ) -> Stepped
-        ensures { λ r. ⌜ r ≡ keptRows used node mail wait events reported ⌝ }
+        ensures { λ r. ⌜ r ≡ keptRows used node mail wait events reported collected ⌝ }
     {
         let letters = mail.letters;
         let gossip = mail.gossip;
@@ -92,6 +93,7 @@ impl Stepped {
                 node,
                 letters,
                 sent: mail.sent,
+                collected,
             },
             wait,
             gossip,

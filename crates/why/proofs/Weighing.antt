@@ -4,7 +4,7 @@ use mathlib.Core.Path.{_≡_, refl, ap, sym, _∙_}
 use mathlib.Core.Bool.{Bool, true, false, not}
 use mathlib.Core.List.{List, [], _∷_}
 use mathlib.Core.Option.{Option}
-use Prim.Native.Nat.{ℕ, _≤_, _<_}
+use Prim.Native.Nat.{ℕ, _-_, _≤_, _<_}
 use lib.ListN.{length}
 use lib.Dec.{leb}
 use borrow.Author.Tests.{le-leb, lt-leb}
@@ -33,7 +33,7 @@ use Rattle.node.specs.Views.{viewNode, storedView}
 use Rattle.node.specs.Rows.{Ready, loaded-view}
 use Rattle.node.specs.Ends.{test-fails, test-passes}
 use Rattle.rules.specs.declared.Verdict.{Verdict}
-use Rattle.rules.specs.Views.{toFound, to-from-found, toVerdict, fromVerdict, to-from-verdict}
+use Rattle.rules.specs.Views.{collectsFor, toFound, to-from-found, toVerdict, fromVerdict, to-from-verdict}
 use Rattle.why.specs.declared.Grounds.{Grounds}
 use Rattle.why.specs.declared.Grounds.the-variants.{Refused}
 use Rattle.why.specs.declared.Stop.{Stop}
@@ -50,11 +50,14 @@ heap-room k alive deceased held e h = sym (ap (λ (u : Bool). pick u (stop.By (f
 
 -- what stops a verdict, by the rows' own counts
 pub stop-there : (n : Node) → Ready n → (v : handler.Verdict Addr) (draws : ℕ)
-    → orStop (listStop v (n .members .len) draws) (heapStop (handler.newsOf here v (n .own)) (n .disseminator .alive .len) (n .disseminator .deceased .len)) ≡ stopOf (viewNode n) v draws
+    → let w = handler.newsOf here v (n .own) in
+    orStop (listStop v (n .members .len) draws) (heapStop w (n .disseminator .alive .len - collectsFor (n .settings .collect) w (heapView (n .disseminator .alive))) (n .disseminator .deceased .len)) ≡ stopOf (viewNode n) v draws
 unfolding viewNode
 stop-there n r v draws =
+    let w = handler.newsOf here v (n .own) in
+    let old = collectsFor (n .settings .collect) w (heapView (n .disseminator .alive)) in
     λ i. orStop (listStop v (sym (view-many (n .members) (r .members .packed)) i) draws)
-    (heapStop (handler.newsOf here v (n .own)) (sym (view-length (n .disseminator .alive) (r .heaps .alive)) i) (sym (view-length (n .disseminator .deceased) (r .heaps .deceased)) i))
+    (heapStop w (sym (view-length (n .disseminator .alive) (r .heaps .alive)) i - old) (sym (view-length (n .disseminator .deceased) (r .heaps .deceased)) i))
 
 -- an event, its parts, D and the verdict, as the code has them
 module _ (n : Node) (e : Event) (ds : List ℕ) (p : Parts) (d : Found) (v : Verdict) (is-p : p ≡ fromParts (W.partsOf here (toEvent e))) (is-d : d ≡ fromFound (death here (p .subject) (heapView (n .disseminator .deceased))))

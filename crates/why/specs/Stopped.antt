@@ -3,7 +3,7 @@
 use mathlib.Core.Path.{_≡_, refl, ap, sym, _∙_}
 use mathlib.Core.Bool.{Bool, true, false}
 use mathlib.Core.List.{List, [], _∷_}
-use Prim.Native.Nat.{ℕ}
+use Prim.Native.Nat.{ℕ, _-_}
 use native.Mathlib.Omega.{arith}
 use lib.ListN.{length}
 use lib.Dec.{eqb, leb}
@@ -19,10 +19,13 @@ use Rattle.address.specs.Here.{Addr, here}
 use Rattle.model.specs.Words as W
 use Rattle.model.specs.Members as list
 use Rattle.model.specs.Node as M
+use Rattle.model.specs.Collect.{collects, cleared}
+use Rattle.laws_choose.specs.Collecting.{cleared-length}
 use Rattle.model.specs.Handler as handler
 use Rattle.disseminate.specs.declared.Found.{Found}
 use Rattle.disseminate.specs.declared.Found.the-variants.{Missing, At}
 use Rattle.disseminate.specs.Views.{fromFound, ofKind}
+use Rattle.rules.specs.Views.{collectsFor}
 use Rattle.why.specs.declared.Grounds.{Grounds}
 use Rattle.why.specs.declared.Grounds.the-variants.{Because, Refused}
 use Rattle.why.specs.declared.Stop.{Stop}
@@ -52,14 +55,16 @@ abbrev pub heapStop : handler.News Addr → ℕ → ℕ → Stop
 heapStop handler.Silent alive deceased = stop.Nothing
 heapStop (handler.Emits k e) alive deceased = pick (leb heap-places (ofKind k alive deceased)) (stop.By (fullOf k)) stop.Nothing
 
+-- and with what a node holds: "Freed places are used before 9 is given."
+abbrev pub heapsStop : handler.News Addr → M.Node Addr → Stop
+heapsStop w s = heapStop w (length (s .disseminator .alive) - collectsFor (s .settings .collect) w (s .disseminator .alive)) (length (s .disseminator .deceased))
+
 abbrev pub orStop : Stop → Stop → Stop
 orStop stop.Nothing y = y
 orStop (stop.By r) y = stop.By r
 
 abbrev pub stopOf : M.Node Addr → handler.Verdict Addr → ℕ → Stop
-stopOf s v draws =
-    orStop (listStop v (length (s .members .table)) draws)
-    (heapStop (handler.newsOf here v (s .own)) (length (s .disseminator .alive)) (length (s .disseminator .deceased)))
+stopOf s v draws = orStop (listStop v (length (s .members .table)) draws) (heapsStop (handler.newsOf here v (s .own)) s)
 
 -- the reason with its numbers, by an event's parts: kind 0 is that of no event
 abbrev pub partsGrounds : List (W.Member Addr) → W.Parts Addr → Found → handler.Verdict Addr → Grounds
@@ -103,14 +108,19 @@ push-stops true r b ds k = refl
 push-stops false r b ds k = refl
 
 -- news of a node whose heaps hold so many
-tell-stops : (w : handler.News Addr) (s : M.Node Addr) (ds : List ℕ) → stopIn (handler.tell here w s ds) ≡ heapStop w (length (s .disseminator .alive)) (length (s .disseminator .deceased))
+tell-stops : (w : handler.News Addr) (s : M.Node Addr) (ds : List ℕ) → stopIn (handler.tell here w s ds) ≡ heapsStop w s
 unfolding M.quiet M.emit M.pushed
 tell-stops handler.Silent s ds = refl
-tell-stops (handler.Emits kind.Alive e) s ds = push-stops (leb heap-places (length (s .disseminator .alive))) _ _ ds _
+tell-stops (handler.Emits kind.Alive e) s ds =
+    let on = s .settings .collect in
+    let g : W.Gossip Addr = record { event = e } in
+    let h = s .disseminator .alive in
+    let room : length (cleared here on kind.Alive g h) ≡ length h - collects here on kind.Alive g h = omega (arith, cleared-length here kind.Alive g h on) in
+    push-stops (leb heap-places (length (cleared here on kind.Alive g h))) _ _ ds _ ∙ ap (λ (n : ℕ). pick (leb heap-places n) (stop.By (fullOf kind.Alive)) stop.Nothing) room
 tell-stops (handler.Emits kind.Deceased e) s ds = push-stops (leb heap-places (length (s .disseminator .deceased))) _ _ ds _
 
 then-stops : (x : Answer (list.Members Addr)) (w : handler.News Addr) (s : M.Node Addr)
-    → stopIn (andThen x λ m rest. handler.tell here w (M.withMembers s m) rest) ≡ orStop (stopIn x) (heapStop w (length (s .disseminator .alive)) (length (s .disseminator .deceased)))
+    → stopIn (andThen x λ m rest. handler.tell here w (M.withMembers s m) rest) ≡ orStop (stopIn x) (heapsStop w s)
 then-stops (refused r) w s = refl
 then-stops (done m rest) w s = tell-stops w (M.withMembers s m) rest
 
@@ -118,7 +128,7 @@ pub act-stops : (v : handler.Verdict Addr) (s : M.Node Addr) (ds : List ℕ) →
 unfolding handler.act
 act-stops v s ds =
     then-stops (handler.listAfter here v (s .members) ds) (handler.newsOf here v (s .own)) s
-    ∙ ap (λ (x : Stop). orStop x (heapStop (handler.newsOf here v (s .own)) (length (s .disseminator .alive)) (length (s .disseminator .deceased)))) (list-stops v (s .members) ds)
+    ∙ ap (λ (x : Stop). orStop x (heapsStop (handler.newsOf here v (s .own)) s)) (list-stops v (s .members) ds)
 
 unless-stopped : {B : Type 0} (x : Answer B) (g : Grounds) → unlessRefused x g ≡ unlessStopped (stopIn x) g
 unless-stopped (refused r) g = refl

@@ -141,7 +141,7 @@ fn heap_stop(news: News, alive: usize, deceased: usize) -> Stop
     }
 }
 
-// What stops a verdict: the list first, then the heap that its news goes to. Nothing is added and nothing is pushed to find out.
+// What stops a verdict: the list first, then the heap that its news goes to, where what it outdates makes room. Nothing is added and nothing is pushed to find out.
 fn stop_of(node: Node, verdict: Verdict, draws: usize) -> Stop
     requires { ⌜ Ready node ⌝ }
     ensures { λ r. ⌜ r ≡ stopOf (viewNode node) (toVerdict verdict) draws ⌝ }
@@ -152,11 +152,9 @@ fn stop_of(node: Node, verdict: Verdict, draws: usize) -> Stop
         Stop::By(refusal) => Stop::By(refusal),
         Stop::Nothing => {
             let news = rules::news_of(verdict, node.own);
-            heap_stop(
-                news,
-                node.disseminator.alive.len,
-                node.disseminator.deceased.len,
-            )
+            let alive = node.disseminator.alive;
+            let old = rules::old_news(node.settings.collect, alive, news);
+            heap_stop(news, alive.len - old, node.disseminator.deceased.len)
         },
     }
 }

@@ -21,9 +21,10 @@ use Rattle.model.specs.Answers.{Answer, done, refused, andThen, when, draw}
 use Rattle.model.specs.Words.{Address, isAlive, unused, sendsOf, Gossip, Event, Nothing, Joined, Recovered, Suspected, Deceased, partsOf}
 use Rattle.model.specs.Heap.{push}
 use Rattle.model.specs.Choose.{entryOf}
+use Rattle.model.specs.Collect.{collects}
 use Rattle.model.specs.Members as list
 use Rattle.model.specs.Node as M
-use Rattle.model.specs.Node.{Node, Out, withMembers, withDisseminator, withHeap, heapOf, lists, stateOf, heldDeath}
+use Rattle.model.specs.Node.{Node, Out, withMembers, withDisseminator, withHeap, heapOf, collecting, lists, stateOf, heldDeath}
 use Rattle.model.specs.Handler as handler
 use Rattle.laws.specs.Bools.{none-some}
 use Rattle.laws_rules.specs.Judged.{Judged, Believed, of-alive, of-other, skipped, joined-at-end, joined-low, joined-raises, joined-enters, recovered-unknown, recovered-low, recovered-recovers, own-at-end, own-refutes, suspected-unknown, suspected-equal, suspected-low, suspected-suspects, deceased-unknown, deceased-low, deceased-buries}
@@ -54,12 +55,16 @@ module _ {A : Type 0} where
   numberIn (Deceased f a n) = n
 
 module _ {A : Type 0} (address : Address A) where
-  -- "an emitted event is pushed to its heap, then reported"
+  -- "an emitted event is pushed to its heap, then reported", where collecting is on after those that it outdates have gone
   abbrev pub spoken : Kind → Event A → Node A → Out A
   spoken k e s =
+      let g : Gossip A = record { event = e } in
+      let on = s .settings .collect in
+      let d = collecting address on k g (s .disseminator) in
       record {
-        node = withDisseminator s (withHeap k (push unused sendsOf (heapOf k (s .disseminator)) (entryOf address (record { event = e }))) (s .disseminator));
-        said = record { event = e } ∷ [];
+        node = withDisseminator s (withHeap k (push unused sendsOf (heapOf k d) (entryOf address g)) d);
+        said = g ∷ [];
+        collected = collects address on k g (s .disseminator .alive);
       }
 
   -- the record of a listed address is replaced
@@ -68,7 +73,7 @@ module _ {A : Type 0} (address : Address A) where
 
   -- nothing changes, nothing is said, and no draw is used
   abbrev pub idles : Node A → List ℕ → Deed A
-  idles s ds = record { out = record { node = s; said = [] }; left = ds }
+  idles s ds = record { out = record { node = s; said = []; collected = 0 }; left = ds }
 
   -- what is stored of an accepted event at a number, and what is said of it. One that comes in takes a draw for its place
   abbrev pub accepts : Event A → ℕ → Node A → List ℕ → Deed A
@@ -127,7 +132,7 @@ number-case P least n p q =
 module _ {A : Type 0} (address : Address A) (s : Node A) (ds : List ℕ) where
   emit-goes : (k : Kind) (e : Event A) (s′ : Node A) (rest : List ℕ) → Went (M.emit address k (record { event = e }) s′ rest) → M.emit address k (record { event = e }) s′ rest ≡ done (spoken address k e s′) rest
   unfolding M.emit M.pushed
-  emit-goes k e s′ rest h = pushed-goes (leb heap-places (length (heapOf k (s′ .disseminator)))) _ _ rest _ h
+  emit-goes k e s′ rest h = pushed-goes (leb heap-places (length (heapOf k (collecting address (s′ .settings .collect) k (record { event = e }) (s′ .disseminator))))) _ _ rest _ h
 
   enter-goes : (a : A) (n : ℕ) → Went (handler.act address (handler.Enter a n) s ds)
       → handler.act address (handler.Enter a n) s ds ≡ done (spoken address kind.Alive (Joined (s .own) a n) (withMembers s (list.added (address .same) a n (getD ds 0 0) (s .members)))) (drop 1 ds)

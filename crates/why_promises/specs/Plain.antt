@@ -12,7 +12,7 @@ use Rattle.model.specs.declared.Kind.{Kind}
 use Rattle.model.specs.declared.Kind.the-variants as kind
 use Rattle.model.specs.declared.Refusal.{Refusal}
 use Rattle.model.specs.declared.Refusal.the-variants.{Unsound, AddressRange}
-use Rattle.model.specs.Answers.{numberOf}
+use Rattle.model.specs.Answers.{numberOf, fullOf}
 use Rattle.address.specs.Here.{Addr, here}
 use Rattle.model.specs.Words.{Address, Event, Nothing, Joined, Recovered, Suspected, Deceased, partsOf}
 use Rattle.model.specs.Sound.{sound, validGossip}
@@ -23,7 +23,7 @@ use Rattle.node.specs.Views.{storedView}
 use Rattle.swim.specs.Contracts.{Explains}
 use Rattle.swim.specs.Lookups.{handed}
 use Rattle.promises.specs.Firsts.{FirstFails, fails, passes, first-among}
-use Rattle.promises.specs.Stops.{fullFor, itemWants, itemStops}
+use Rattle.promises.specs.Stops.{Push, fullFor, itemWants, itemStops}
 use Rattle.why.specs.declared.Grounds.{Grounds}
 use Rattle.why.specs.declared.Grounds.the-variants.{Refused}
 use Rattle.why_promises.specs.Told.{told-refusal}
@@ -45,10 +45,9 @@ module _ {A : Type 0} (address : Address A) where
   valid-is (Suspected f a n) = refl
   valid-is (Deceased f a n) = refl
 
-late-full : (h : Option Kind) → 6 ≤ numberOf (fullFor h)
+late-full : (p : Option (Push Addr)) → 6 ≤ numberOf (fullFor p)
 late-full none = omega arith
-late-full (some kind.Alive) = omega arith
-late-full (some kind.Deceased) = omega arith
+late-full (some p) = elim (p .heap) as (λ k. 6 ≤ numberOf (fullOf k)) [ kind.Alive ↦ omega arith | kind.Deceased ↦ omega arith ]
 
 -- the rules give 6 and later ones
 late : {x : Refusal} (e : Event Addr) (node : Node) (draws : List ℕ) → FirstFails x (itemStops here e (handed node) draws) → 6 ≤ numberOf x

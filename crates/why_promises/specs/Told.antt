@@ -137,7 +137,7 @@ module _ (node : Node) (draws : List ℕ) (g : Gossip) (w : Grounds) (met : Expl
 
   stops-here : (x : Refusal) → FirstFails x (itemStops here (toEvent (g .event)) (handed node) draws) → StopsAt here (toGossip g ∷ []) (handed node) draws x 0
   unfolding M.quiet
-  stops-here x f = record { there = omega arith; so-far = record { node = handed node; said = [] }; left = draws; through = refl; stops = f }
+  stops-here x f = record { there = omega arith; so-far = record { node = handed node; said = []; collected = 0 }; left = draws; through = refl; stops = f }
 
   -- it refuses exactly where `why` names that refusal, by that record
   pub same-refusal : (x : Refusal) → (w ≡ Refused x) ↔ (r .answer .reply ≡ RefusedAt x (Record 0))

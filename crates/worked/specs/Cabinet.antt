@@ -1,5 +1,6 @@
 -- A small cabinet for the worked numbers: its addresses, settings and nodes.
 -- Assumes nothing.
+use mathlib.Core.Bool.{false}
 use mathlib.Core.List.{List, [], _∷_}
 use mathlib.Core.Option.{Option, none, some}
 use Prim.Native.Nat.{ℕ, _+_, _*_}
@@ -43,6 +44,7 @@ settings =
       «send_constant» = 3;
       «max_selected» = 6;
       «max_size» = 1169;
+      collect = false;
     }
 
 abbrev pub member : ℕ → State → ℕ → Member ℕ

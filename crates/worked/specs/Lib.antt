@@ -8,3 +8,4 @@ pub mod Seen
 pub mod Wrong
 pub mod Differs
 pub mod Clock
+pub mod Collected

@@ -104,7 +104,7 @@ abbrev pub ofNode : Node ℕ → List ℕ
 ofNode s = ofMembers (s .members) ++ counted ofEntry (s .disseminator .alive) ++ counted ofEntry (s .disseminator .deceased) ++ counted ofTimer (s .timers)
 
 abbrev pub ofOut : Out ℕ → List ℕ
-ofOut o = counted ofGossip (o .said) ++ ofNode (o .node)
+ofOut o = o .collected ∷ counted ofGossip (o .said) ++ ofNode (o .node)
 
 abbrev pub ofAction : Action ℕ → List ℕ
 ofAction (Ping from by) = 0 ∷ from ∷ ofOption by
@@ -115,7 +115,7 @@ abbrev pub ofMessage : Message ℕ → List ℕ
 ofMessage m = m .target ∷ ofAction (m .action) ++ counted ofGossip (m .gossip)
 
 abbrev pub ofEffect : Effect ℕ → List ℕ
-ofEffect e = counted ofMessage (e .messages) ++ counted ofGossip (e .events) ++ ofNode (e .node)
+ofEffect e = e .collected ∷ counted ofMessage (e .messages) ++ counted ofGossip (e .events) ++ ofNode (e .node)
 
 abbrev pub ofState : WaitState ℕ → List ℕ
 ofState SendingPing = 0 ∷ []
@@ -156,7 +156,7 @@ ofReply (RefusedAt r at) = numberOf r ∷ ofCause at
 
 -- of a call: how it ended, what is sent and reported, and the node that the rows hold
 abbrev pub ofOutcome : Outcome ℕ → List ℕ
-ofOutcome o = ofReply (o .reply) ++ ofEffect (record { node = loaded (o .node); messages = o .messages; events = o .events })
+ofOutcome o = ofReply (o .reply) ++ ofEffect (record { node = loaded (o .node); messages = o .messages; events = o .events; collected = o .collected })
 
 abbrev pub ofStep : StepOutcome ℕ → List ℕ
 ofStep o = ofWait (o .wait) ++ ofOutcome (o .outcome)

@@ -93,12 +93,12 @@ table =
     ∷ (termsOf 2 1169 3 .alive-share is 1)
     ∷ (choose ipv4 (termsOf 2 1169 3) (heapOf (x ∷ y ∷ z ∷ []) []) [] .from-alive is 3)
     -- "B Pending 4, Suspected 4: nothing; 5: Suspected 5"
-    ∷ (ruleOf Suspected B 4 (withB state.Pending 4) [] is done (record { node = withB state.Pending 4; said = [] }) [])
+    ∷ (ruleOf Suspected B 4 (withB state.Pending 4) [] is done (record { node = withB state.Pending 4; said = []; collected = 0 }) [])
     ∷ (ofGiven (λ o. numbered ipv4 B (o .node)) (ruleOf Suspected B 5 (withB state.Pending 4) []) is some 5)
     ∷ (ofGiven (λ o. stateOf ipv4 B (o .node)) (ruleOf Suspected B 5 (withB state.Pending 4) []) is some state.Suspected)
     ∷ (ofGiven (λ o. o .said) (ruleOf Suspected B 5 (withB state.Pending 4) []) is some (says Suspected B 5 ∷ []))
     -- "B at 4, Deceased 3: kept; 4: gone"
-    ∷ (ruleOf Deceased B 3 (withB state.Alive 4) [] is done (record { node = withB state.Alive 4; said = [] }) [])
+    ∷ (ruleOf Deceased B 3 (withB state.Alive 4) [] is done (record { node = withB state.Alive 4; said = []; collected = 0 }) [])
     ∷ (ofGiven (λ o. lists ipv4 B (o .node)) (ruleOf Deceased B 4 (withB state.Alive 4) []) is some false)
     -- the trap "moving the position when an add lands before it": C comes in at place 0, and the position stays
     ∷ (ofGiven (λ m. m .position) (list.add eqb C 0 (order (own ∷ B ∷ []) 1) (0 ∷ [])) is some 1)

@@ -144,7 +144,7 @@ abbrev pub pushedBeforeAdded : ℕ → ℕ → Node ℕ → List ℕ → Answer 
 pushedBeforeAdded a n s ds =
     andThen (emit ipv4 kind.Alive (record { event = Joined (s .own) a n }) s ds) λ o rest.
     andThen (list.add eqb a n (o .node .members) rest) λ m rest₂.
-    done (record { node = withMembers (o .node) m; said = o .said }) rest₂
+    done (record { node = withMembers (o .node) m; said = o .said; collected = o .collected }) rest₂
 
 -- the draw is read before a place is looked for: 8 before 7
 abbrev pub drawnBeforeRoom : ℕ → ℕ → list.Members ℕ → List ℕ → Answer (list.Members ℕ)
@@ -421,7 +421,7 @@ askerAdded (Ack from to) gs s ds = handle ipv4 (Ack from to) gs s ds
 abbrev pub spentGossipWritten : ℕ → List (Gossip ℕ) → Node ℕ → List ℕ → Stepped ℕ
 spentGossipWritten now gs s [] =
     record {
-      effect = record { node = s; messages = record { target = s .own; action = Ping (s .own) none; gossip = gs } ∷ []; events = [] };
+      effect = record { node = s; messages = record { target = s .own; action = Ping (s .own) none; gossip = gs } ∷ []; events = []; collected = 0 };
       wait = enters SendingPing now;
     }
 spentGossipWritten now gs s (a ∷ rest) = pinged ipv4 now gs s (a ∷ rest)
@@ -488,6 +488,7 @@ pingedElsewhere now gs s (a ∷ rest) =
             node = e .effect .node;
             messages = record { target = s .own; action = Ping (s .own) none; gossip = gs } ∷ [];
             events = [];
+            collected = 0;
           };
       wait = e .wait;
     }

@@ -2,6 +2,7 @@
 -- Assumes nothing.
 use mathlib.Core.Path.{_≡_, sym, _∙_}
 use Prim.Native.Nat.{ℕ, _≤_}
+use native.Mathlib.Omega.{arith}
 use Rattle.address.specs.Here.{here}
 use Rattle.model.specs.Choose.{choose}
 use Rattle.heap.specs.declared.Heap.{Heap}
@@ -61,7 +62,7 @@ spend-top-requires c κs =
 plus-requires : tie.Need-plus-requires Inv-loop μ-loop
 plus-requires c κs =
     let l = c .before .before .before .before .before .before .before .before in
-    counts-fit (l .before .before .args .t) _ (l .loop .inv .1 .ready) .0
+    omega (arith, counts-fit (l .before .before .args .t) _ (l .loop .inv .1 .ready) .0)
 
 gives-requires-2 : tie.Need-gives-requires-2 Inv-loop μ-loop
 gives-requires-2 c κs =
@@ -86,7 +87,7 @@ spend-top-requires-2 c κs =
 plus-requires-2 : tie.Need-plus-requires-2 Inv-loop μ-loop
 plus-requires-2 c κs =
     let l = c .before .before .before .before .before .before .before .before .before .before .before .before in
-    counts-fit (l .before .before .args .t) _ (l .loop .inv .1 .ready) .1
+    omega (arith, counts-fit (l .before .before .args .t) _ (l .loop .inv .1 .ready) .1)
 
 sub-left : tie.Need-sub-left Inv-loop μ-loop
 sub-left c =

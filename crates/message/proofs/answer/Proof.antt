@@ -12,7 +12,7 @@ returns c =
     let v = c .before .before .before in
     let a = v .before .args in
     let e = v .spread .ensures .0 in
-    let answer = c .one-letter .ensures ∙ ap (λ (x : Spread). oneLetter (a .used) (x .node) (record { target = a .target; action = a .action; count = x .count })) e in
+    let answer = c .one-letter .ensures ∙ ap (λ (x : Spread). oneLetter (a .used) (x .node) (record { target = a .target; action = a .action; count = x .count }) (a .heard .collected)) e in
     λ i. record { answer = answer i; gossip = e i .rows; written = e i .count; events = a .heard .events; reported = a .heard .reported }
 
 pub answer-spec : {M : Type 1} → statement M

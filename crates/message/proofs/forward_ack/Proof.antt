@@ -12,7 +12,7 @@ returns c =
     let o = c .before in
     let k = o .before in
     let a = k .before .before .args in
-    let answer = o .one-letter .ensures ∙ ap (λ (x : Action). oneLetter (a .used) (a .heard .node) (record { target = a .to; action = x; count = a .given })) (k .new-ack .ensures) in
+    let answer = o .one-letter .ensures ∙ ap (λ (x : Action). oneLetter (a .used) (a .heard .node) (record { target = a .to; action = x; count = a .given }) (a .heard .collected)) (k .new-ack .ensures) in
     λ i. record { answer = answer i; gossip = c .first-of .ensures i; written = a .given; events = a .heard .events; reported = a .heard .reported }
 
 pub forward-ack-spec : {M : Type 1} → statement M

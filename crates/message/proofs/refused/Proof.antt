@@ -11,7 +11,7 @@ returns c =
     let l = g .before in
     let a = l .before .args in
     λ i. record {
-      answer = record { reply = a .reply; node = a .node; letters = replicate 4 (l .none .ensures i); sent = 0 };
+      answer = record { reply = a .reply; node = a .node; letters = replicate 4 (l .none .ensures i); sent = 0; collected = 0 };
       gossip = g .no-gossip .ensures i;
       written = 0;
       events = c .no-events .ensures i;

@@ -3,7 +3,8 @@
 use mathlib.Core.Path.{ap, _∙_}
 use borrow.Author.Needs.{needs}
 use Rattle.model.specs.declared.Reply.the-variants.{Done}
-use Rattle.node.specs.Views.{plainAnswer}
+use Rattle.node.specs.declared.Node.{Node}
+use Rattle.node.specs.Views.{silentAnswer}
 use Rattle.message.proofs.settle_ack.Statement.{statement}
 use Rattle.message.proofs.settle_ack.Tie as tie
 
@@ -12,7 +13,7 @@ returns c =
     let p = c .before in
     let k = p .before in
     let a = k .before .before .args in
-    let answer = p .plain .ensures ∙ ap (plainAnswer (Done (a .used))) (k .acked .ensures) in
+    let answer = p .silent .ensures ∙ ap (λ (n : Node). silentAnswer (Done (a .used)) n (a .heard .collected)) (k .acked .ensures) in
     λ i. record { answer = answer i; gossip = c .no-gossip .ensures i; written = 0; events = a .heard .events; reported = a .heard .reported }
 
 pub settle-ack-spec : {M : Type 1} → statement M

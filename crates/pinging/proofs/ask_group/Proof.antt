@@ -25,7 +25,7 @@ returns c =
     record {
       is =
           c .kept .ensures
-          ∙ kept-rows (a .used) (k .ask-each .result .node) (k .ask-each .result .mail) _ (a .suspected ∷ []) 1 (e .node) (e .messages) (toGossip (a .suspected) ∷ []) (D.enters (W.WaitingForPingReqAck (a .target) (a .number)) (a .tick))
+          ∙ kept-rows (a .used) (k .ask-each .result .node) (k .ask-each .result .mail) _ (a .suspected ∷ []) 1 (e .node) (e .messages) (toGossip (a .suspected) ∷ []) (a .collected) (D.enters (W.WaitingForPingReqAck (a .target) (a .number)) (a .tick))
           (ap (λ (x : Asked). x .node) (k .ask-each .ensures .0)) (ap (λ (x : Asked). x .mail) (k .ask-each .ensures .0)) refl (λ i. sym (from-to-gossip (a .suspected)) i ∷ []) refl;
       written = omega (arith, ap (λ (x : Stepped). x .written) (c .kept .ensures), k .ask-each .ensures .1);
       reported = omega (arith, ap (λ (x : Stepped). x .reported) (c .kept .ensures));

@@ -4,18 +4,15 @@ use mathlib.Core.Path.{refl, ap, _∙_}
 use Prim.Native.Nat.{_-_}
 use native.Mathlib.Omega.{arith}
 use borrow.Author.Needs.{needs}
-use Rattle.types.specs.Views.{toGossip}
-use Rattle.disseminate.specs.declared.Grown.{Grown}
-use Rattle.disseminate.proofs.Pushing.{alive-pushed}
 use Rattle.wait.specs.Ends.{plain-gives}
 use Rattle.pinging.proofs.Requests.{Request, request-full, said-ready, wanted-few, request-refused, request-ready, request-few, request-kept}
 use Rattle.pinging.proofs.send_ping_req.Statement.{statement}
 use Rattle.pinging.proofs.send_ping_req.Tie as tie
 
 -- what the code has when it has pushed
-abbrev request : tie.After-grow → Request
+abbrev request : tie.After-renew → Request
 request p =
-    let g = p .before in
+    let g = p .before .before in
     let u = g .before in
     let s = u .before .before .before in
     record {
@@ -31,9 +28,8 @@ request p =
       members-is = u .update-member .ensures;
       gossip = record { event = g .new-node-suspected .result };
       named = g .new-node-suspected .ensures;
-      pushed = record { disseminator = record { alive = p .grow .result .heap; deceased = s .args .node .disseminator .deceased }; full = p .grow .result .full };
-      pushed-is = ap (λ (x : Grown). record { disseminator = record { alive = x .heap; deceased = s .args .node .disseminator .deceased }; full = x .full }) (p .grow .ensures)
-          ∙ alive-pushed (s .args .node .disseminator) (s .pre .0 .heaps) (toGossip (record { event = g .new-node-suspected .result }));
+      pushed = p .renew .result;
+      pushed-is = p .renew .ensures;
     }
 
 returns : tie.Need-returns
@@ -41,15 +37,15 @@ returns c = plain-gives (c .plain .ensures) (request-full (request (c .before .b
 
 get-member-list-requires : tie.Need-get-member-list-requires
 get-member-list-requires c κs =
-    let q = request (c .before .before) in
-    let r = said-ready q (c .before .if1 .left) in
-    (r .members, r .lamps, wanted-few q (c .before .if1 .left), omega arith)
+    let q = request (c .before) in
+    let r = said-ready q (c .if1 .left) in
+    (r .members, r .lamps, wanted-few q (c .if1 .left), omega arith)
 
 ask-group-requires : tie.Need-ask-group-requires
 ask-group-requires c κs =
     let d = c .before .before .before .before .before in
     let k = d .before .before .before .before in
-    let o = k .before .before in
+    let o = k .before in
     let p = o .before in (
       request-ready (request p) (o .if1 .left) (k .get-member-list .result) (k .get-member-list .ensures) (d .drew .given .1) refl,
       request-few (request p) (o .if1 .left) (k .get-member-list .result) (k .get-member-list .ensures) (d .drew .given .1) refl,
@@ -60,7 +56,7 @@ returns-2 c =
     let t = c .before in
     let d = t .before .before .before .before .before in
     let k = d .before .before .before .before in
-    let o = k .before .before in
+    let o = k .before in
     let p = o .before in
     let g = c .ask-group .ensures in
     record { is = g .is ∙ request-kept (request p) (o .if1 .left) (k .get-member-list .result) (k .get-member-list .ensures) (d .drew .given .1) refl; written = g .written; reported = g .reported }
@@ -69,7 +65,7 @@ returns-3 : tie.Need-returns-3
 returns-3 c =
     let d = c .before .before in
     let k = d .before .before .before .before in
-    let o = k .before .before in
+    let o = k .before in
     plain-gives (c .plain2 .ensures) (request-refused (request (o .before)) (o .if1 .left) (k .get-member-list .result) (k .get-member-list .ensures) (d .drew2 .given .0 .0) (d .drew2 .given .1))
 
 pub send-ping-req-spec : {M : Type 1} → statement M

@@ -4,9 +4,6 @@ use mathlib.Core.Path.{ap, _∙_}
 use mathlib.Core.List.{[], _∷_}
 use native.Mathlib.Omega.{arith}
 use borrow.Author.Needs.{needs}
-use Rattle.types.specs.Views.{toGossip}
-use Rattle.disseminate.specs.declared.Grown.{Grown}
-use Rattle.disseminate.proofs.Pushing.{deceased-pushed}
 use Rattle.timer_call.specs.declared.Ended.{Ended}
 use Rattle.timer_call.proofs.TimerEnds.{Death, end-full, end-kept}
 use Rattle.timer_call.proofs.remove_at.Statement.{statement}
@@ -31,9 +28,8 @@ death p =
       members-is = w .remove-member .ensures;
       gossip = record { event = d .new-node-deceased .result };
       named = d .new-node-deceased .ensures;
-      pushed = record { disseminator = record { alive = s .args .node .disseminator .alive; deceased = p .grow .result .heap }; full = p .grow .result .full };
-      pushed-is = ap (λ (x : Grown). record { disseminator = record { alive = s .args .node .disseminator .alive; deceased = x .heap }; full = x .full }) (p .grow .ensures)
-          ∙ deceased-pushed (s .args .node .disseminator) (s .pre .0 .heaps) (toGossip (record { event = d .new-node-deceased .result }));
+      pushed = p .grow .result;
+      pushed-is = p .grow .ensures;
     }
 
 returns : tie.Need-returns
@@ -41,9 +37,12 @@ returns c = (c .plain .ensures ∙ end-full (death (c .before .before)) (c .befo
 
 returns-2 : tie.Need-returns-2
 returns-2 c =
-    let o = c .before .before .before .before .before in
+    let k = c .before .before in
+    let n = k .before in
+    let o = n .before .before .before .before in
     let q = death (o .before) in (
-      (λ i. record { answer = c .plain2 .ensures i; events = q .gossip ∷ []; reported = 1 }) ∙ end-kept q (o .if1 .left),
+      (λ i. record { answer = c .silent .ensures i; events = q .gossip ∷ []; reported = 1 })
+          ∙ end-kept q (n .old-news .result) (k .clear .result) (n .old-news .ensures .0) (k .clear .ensures) (o .if1 .left),
       omega arith,
     )
 
@@ -59,5 +58,7 @@ remove-at-spec =
     (λ c κs. search needs)
     (λ c κs. search needs)
     returns
+    (λ c κs. let s = c .before .before .before .before .before .before .before .before .before .before .before .before in s .pre .0 .heaps .alive)
+    (λ c κs. let s = c .before .before .before .before .before .before .before .before .before .before .before .before .before in s .pre .0 .heaps .alive)
     (λ c κs. search needs)
     returns-2)

@@ -1,5 +1,5 @@
 //! The edge of the domain in which the published code is the judge: no refusal is met, the list is never emptied, no
-//! number is lowered, and no timer ends for an address that is to stay or is gone.
+//! number is lowered, no timer ends for an address that is to stay or is gone, and no old news is collected.
 //! Past it the answers are the port's own, so the oracle says only that the edge was passed.
 use rand::Lent;
 
@@ -26,6 +26,8 @@ pub enum Outside {
     Refuted,
     /// A timer ended for an address that is not listed.
     Gone,
+    /// The node collects old news.
+    Collecting,
 }
 
 /// What the published code did in one call.
@@ -49,7 +51,11 @@ fn too_large(address: Address) -> bool {
 
 pub fn check_creation(creation: &Creation) -> Result<(), Outside> {
     refuse(5, too_large(creation.own.address))?;
-    refuse(1, !in_range(&creation.settings))
+    refuse(1, !in_range(&creation.settings))?;
+    match creation.collect {
+        true => Err(Outside::Collecting),
+        false => Ok(()),
+    }
 }
 
 fn in_range(settings: &Settings) -> bool {

@@ -28,6 +28,8 @@ pub struct Creation {
     pub settings: Settings,
     pub own: Peer,
     pub tick: u32,
+    /// Is old news collected? The published code has no such setting.
+    pub collect: bool,
 }
 
 /// A call on a node.
@@ -128,6 +130,10 @@ fn hex_digit(digit: u8) -> Option<u8> {
 }
 
 fn creation(words: &[&str]) -> Option<Creation> {
+    let (words, collect) = match words {
+        [words @ .., "collect"] => (words, true),
+        words => (words, false),
+    };
     let &[i, t, r, s, g, c, m, z, own, number_word, tick] = words else {
         return None;
     };
@@ -145,6 +151,7 @@ fn creation(words: &[&str]) -> Option<Creation> {
         settings,
         own: peer(own, number_word)?,
         tick: number32(tick)?,
+        collect,
     })
 }
 
@@ -328,7 +335,8 @@ impl fmt::Display for Creation {
         for setting in waits.iter().chain(&others) {
             write!(f, "{setting} ")?;
         }
-        write!(f, "{} {} {}", self.own.address, self.own.number, self.tick)
+        write!(f, "{} {} {}", self.own.address, self.own.number, self.tick)?;
+        f.write_str(if self.collect { " collect" } else { "" })
     }
 }
 

@@ -1,8 +1,8 @@
 -- `message::gossip::handle_gossip` meets its contract: what is left of the rules gives the answer of the whole.
 -- Assumes nothing.
-use mathlib.Core.Path.{_≡_, refl, ap, sym, _∙_}
+use mathlib.Core.Path.{_≡_, refl, ap, sym, subst, _∙_}
 use mathlib.Core.List.{List}
-use Prim.Native.Nat.{ℕ, _+_, _-_, _≤_, _<_}
+use Prim.Native.Nat.{ℕ, _+_, _-_, _*_, _≤_, _<_}
 use native.Mathlib.Omega.{arith}
 use mir.Val.{Fits}
 use mir.Syntax.{w64}
@@ -19,19 +19,19 @@ use Rattle.model.specs.Node as M
 use Rattle.model.specs.Handler as handler
 use Rattle.types.specs.Views.{toOptional}
 use Rattle.heap.specs.declared.Heap.{Heap}
-use Rattle.heap.specs.Views.{heapView}
+use Rattle.heap.specs.Views.{heapView, Packed}
 use Rattle.member.specs.declared.Members.{Members}
 use Rattle.member.specs.Views.{viewMembers}
 use Rattle.disseminate.specs.Views.{ofKind}
 use Rattle.node.specs.declared.Node.{Node}
 use Rattle.node.specs.Views.{viewNode, withMembers, withDisseminator}
 use Rattle.rules.specs.declared.Verdict.{Verdict}
-use Rattle.rules.specs.Views.{toVerdict, toNews, to-from-verdict, to-from-news, listAfterOf}
+use Rattle.rules.specs.Views.{collectsFor, toVerdict, toNews, to-from-verdict, to-from-news, listAfterOf}
 use Rattle.message.specs.declared.gossip.Lent.{Lent}
 use Rattle.message.specs.declared.gossip.Report.{Report}
-use Rattle.message.specs.Views.{recordsOf, senderRule, verdictAt, RoomFor, findsFull, fullFor, toldTo, noted, refusedHeard, heardOf}
-use Rattle.message.specs.Acting.{room-for, act-refused, drawn-within, act-full, act-done}
-use Rattle.message.specs.Hearing.{Sofar, ahead, turn, turn-keeps, records-long, noted-few, Counted, counted-stops, counted-next, sofar-start, sofar-next, sofar-over, sofar-refused, sofar-more, sofar-ends}
+use Rattle.message.specs.Views.{recordsOf, senderRule, verdictAt, clearedFor, RoomFor, findsFull, fullFor, toldTo, noted, refusedHeard, heardOf}
+use Rattle.message.specs.Acting.{room-for, cleared-fits, act-refused, drawn-within, act-full, act-done}
+use Rattle.message.specs.Hearing.{Sofar, ahead, turn, turn-keeps, records-long, noted-few, noted-collected, Counted, counted-stops, counted-next, sofar-start, sofar-next, sofar-over, sofar-refused, sofar-more, sofar-ends}
 use Rattle.message.proofs.gossip.handle_gossip.Statement.{statement}
 use Rattle.message.proofs.gossip.handle_gossip.Tie as tie
 
@@ -51,7 +51,7 @@ stops n l draws = handler.stopsAt here (records l) (viewNode n) draws
 
 abbrev Inv-loop : tie.InvT-loop
 Inv-loop node lent draws members₀ alive₀ deceased₀ report₀ used₀ i₀ members alive deceased report used i =
-    (i ≤ lent .given + 1) × (report .count ≤ i) × Counted (records lent) (viewNode node) draws used i (current node members alive deceased) × Sofar (whole node lent draws) (ahead (toOptional (lent .sender)) (records lent) i) draws used (current node members alive deceased) report
+    (i ≤ lent .given + 1) × (report .count ≤ i) × Counted (records lent) (viewNode node) draws used i (current node members alive deceased) × Sofar (whole node lent draws) (ahead (toOptional (lent .sender)) (records lent) i) draws used (current node members alive deceased) report × (report .collected ≤ 128 * i)
 
 abbrev μ-loop : tie.MeasureT-loop
 μ-loop node lent draws members₀ alive₀ deceased₀ report₀ used₀ i₀ members alive deceased report used i = lent .given + 1 - i
@@ -64,6 +64,7 @@ loop-holds c =
       omega (arith, ap (λ (x : Report). x .count) (c .no-report .ensures)),
       record { count = λ h. omega arith },
       rw (c .no-report .ensures) (sofar-start (whole (a .node) (a .lent) (a .draws .now)) (a .draws .now) (a .node) (ahead (toOptional (a .lent .sender)) (records (a .lent)) 0) (s .pre .0) refl),
+      omega (arith, ap (λ (x : Report). x .collected) (c .no-report .ensures)),
     )
 
 many : (s : tie.Start Inv-loop μ-loop) → length (records (s .args .lent)) ≡ s .args .lent .given
@@ -132,12 +133,28 @@ is-news w =
 abbrev news : tie.After-verdict-at Inv-loop μ-loop → handler.News Addr
 news v = handler.newsOf here (verdict v) (start v .args .node .own)
 
--- is the heap full that the news goes to
-is-full : (f : tie.After-finds-full Inv-loop μ-loop) → let v = f .before .before .before .before .before .before in let at = v .before .before .before .loop in f .finds-full .result ≡ findsFull (news v) (at .alive .len) (at .deceased .len)
-is-full f =
-    let v = f .before .before .before .before .before .before in
+-- how many held events the news outdates
+abbrev old : tie.After-verdict-at Inv-loop μ-loop → ℕ
+old v = collectsFor (start v .args .node .settings .collect) (news v) (heapView (v .before .before .before .loop .alive))
+
+is-old : (o : tie.After-old-news Inv-loop μ-loop) → o .old-news .result ≡ old (o .before .before .before .before .before .before)
+is-old o =
+    let v = o .before .before .before .before .before .before in
     let at = v .before .before .before .loop in
-    f .finds-full .ensures ∙ ap (λ (w : handler.News Addr). findsFull w (at .alive .len) (at .deceased .len)) (is-news (f .before))
+    o .old-news .ensures .0 ∙ ap (λ (w : handler.News Addr). collectsFor (start v .args .node .settings .collect) w (heapView (at .alive))) (is-news (o .before))
+
+few-old : (o : tie.After-old-news Inv-loop μ-loop) → o .old-news .result ≤ 128
+few-old o =
+    let at = o .before .before .before .before .before .before .before .before .before .loop in
+    omega (arith, o .old-news .ensures .1, at .inv .3 .ready .heaps .alive .few)
+
+-- is the heap full that the news goes to
+is-full : (f : tie.After-finds-full Inv-loop μ-loop) → let v = f .before .before .before .before .before .before .before .before in let at = v .before .before .before .loop in f .finds-full .result ≡ findsFull (news v) (at .alive .len - old v) (at .deceased .len)
+is-full f =
+    let o = f .before .before in
+    let v = o .before .before .before .before .before .before in
+    let at = v .before .before .before .loop in
+    f .finds-full .ensures ∙ (λ i. findsFull (is-news (o .before) i) (at .alive .len - is-old o i) (at .deceased .len))
 
 -- a lent row's length is a number of the machine
 fits : (s : tie.Start Inv-loop μ-loop) → Fits w64 (length (s .args .draws .now))
@@ -187,43 +204,78 @@ returns-2 c =
     let h = k .before in
     let f = h .before in
     let t = f .before in
-    let d = t .before .before .before in
+    let w = t .before .before .before in
+    let d = w .before .before in
     let l = d .before .before in
     let v = l .before in
     let a = start v .args in
     let at = v .before .before .before .loop in
     let e = act-full (reached v) (at .inv .3 .ready) (verdict v) (a .draws .now) (at .used) (at .inv .3 .within) (l .list-after .result) (is-list l) (d .drew .given .0 .0) (d .drew .given .1) (sym (is-full t) ∙ f .if2 .taken) in
-    let full : h .full-heap .result ≡ fullFor (news v) = h .full-heap .ensures ∙ ap fullFor (is-news (t .before)) in
+    let full : h .full-heap .result ≡ fullFor (news v) = h .full-heap .ensures ∙ ap fullFor (is-news w) in
     c .refused2 .ensures ∙ (λ i. refusedHeard (a .node) (full i) (k .cause-at2 .ensures i)) ∙ stopped v (fullFor (news v)) e
 
 abbrev told : tie.Else2 Inv-loop μ-loop → tie.After-verdict-at Inv-loop μ-loop
-told f = f .before .before .before .before .before .before .before
+told f = f .before .before .before .before .before .before .before .before .before
 
-has-room : (f : tie.Else2 Inv-loop μ-loop) (k : Kind) → let at = told f .before .before .before .loop in RoomFor k (toNews (f .before .before .news-of .result)) (ofKind k (at .alive .len) (at .deceased .len))
-has-room f k = let at = told f .before .before .before .loop in room-for (toNews (f .before .before .news-of .result)) k (at .alive .len) (at .deceased .len) (sym (f .before .finds-full .ensures) ∙ f .if2 .left)
+abbrev said : tie.Else2 Inv-loop μ-loop → handler.News Addr
+said f = toNews (f .before .before .before .before .news-of .result)
+
+has-room : (f : tie.Else2 Inv-loop μ-loop) (k : Kind) → let at = told f .before .before .before .loop in RoomFor k (said f) (ofKind k (at .alive .len - f .before .before .before .old-news .result) (at .deceased .len))
+has-room f k =
+    let at = told f .before .before .before .loop in
+    room-for (said f) k (at .alive .len - f .before .before .before .old-news .result) (at .deceased .len) (sym (f .before .finds-full .ensures) ∙ f .if2 .left)
+
+-- the alive heap without what the news outdates is whole, and has room
+clear-there : (k : tie.After-clear Inv-loop μ-loop) → let f = k .before .before in let at = told f .before .before .before .loop in
+    k .clear .result ≡ clearedFor (collectsFor (start (told f) .args .node .settings .collect) (said f) (heapView (at .alive))) (said f) (at .alive)
+clear-there k =
+    let f = k .before .before in
+    let at = told f .before .before .before .loop in
+    k .clear .ensures ∙ ap (λ (n : ℕ). clearedFor n (said f) (at .alive)) (f .before .before .before .old-news .ensures .0)
+
+tell-requires : tie.Need-tell-requires Inv-loop μ-loop
+tell-requires c κs =
+    let f = c .before .before in
+    let at = told f .before .before .before .loop in
+    let on = start (told f) .args .node .settings .collect in
+    let fits = cleared-fits on (said f) (at .alive) (at .inv .3 .ready .heaps .alive) in
+    let long : at .alive .len - f .before .before .before .old-news .result ≡ c .clear .result .len =
+    ap (λ (n : ℕ). at .alive .len - n) (f .before .before .before .old-news .ensures .0) ∙ sym (ap (λ (h : Heap). h .len) (clear-there c) ∙ fits .1) in
+    (subst Packed (sym (clear-there c)) (fits .0), subst (RoomFor kind.Alive (said f)) long (has-room f kind.Alive))
+
+note-requires : tie.Need-note-requires Inv-loop μ-loop
+note-requires c κs =
+    let f = c .before .before .before .before in
+    let v = told f in
+    let at = v .before .before .before .loop in
+    (room v, omega (arith, at .inv .4, is-due (v .before), start v .pre .1 .few), few-old (f .before .before .before))
 
 loop-again : tie.Need-loop-again Inv-loop μ-loop
 unfolding viewNode
 loop-again c =
-    let f = c .before .before .before .before in
+    let k = c .before .before .before in
+    let f = k .before .before in
     let t = f .before in
-    let d = t .before .before .before in
+    let o = t .before .before in
+    let d = o .before .before .before in
     let l = d .before .before in
     let v = l .before in
     let s = start v in
     let a = s .args in
     let at = v .before .before .before .loop in
     let w = news v in
-    let n : c .note .result ≡ noted (at .report) w = c .note .ensures ∙ ap (noted (at .report)) (is-news (t .before)) in
+    let n : c .note .result ≡ noted (at .report) w (old v) = c .note .ensures ∙ (λ i. noted (at .report) (is-news (o .before) i) (is-old o i)) in
     let alive = c .before .before .tell .result in
     let deceased = c .before .tell2 .result in
     let more = d .drew .given .0 .0 in
-    let acted = act-done (reached v) (at .inv .3 .ready) (verdict v) (a .draws .now) (at .used) (at .inv .3 .within) (l .list-after .result) (is-list l) more (d .drew .given .1) alive deceased (c .before .before .tell .ensures ∙ ap (λ (x : handler.News Addr). toldTo kind.Alive x (at .alive)) (is-news (t .before))) (c .before .tell2 .ensures ∙ ap (λ (x : handler.News Addr). toldTo kind.Deceased x (at .deceased)) (is-news (t .before))) (sym (is-full t) ∙ f .if2 .left) in
+    let acted = act-done (reached v) (at .inv .3 .ready) (verdict v) (a .draws .now) (at .used) (at .inv .3 .within) (l .list-after .result) (is-list l) more (d .drew .given .1) alive deceased (c .before .before .tell .ensures ∙ ap (toldTo kind.Alive (said f)) (k .clear .ensures) ∙ (λ i. toldTo kind.Alive (is-news (o .before) i) (clearedFor (is-old o i) (is-news (o .before) i) (at .alive)))) (c .before .tell2 .ensures ∙ ap (λ (x : handler.News Addr). toldTo kind.Deceased x (at .deceased)) (is-news (o .before))) (sym (is-full t) ∙ f .if2 .left) in
+    let counts = noted-collected (at .report) w (a .node .settings .collect) (heapView (at .alive)) in
     let keeps = turn-keeps (toOptional (a .lent .sender)) (records (a .lent)) (at .i) (viewNode (reached v)) (drop (at .used) (a .draws .now)) (at .inv .3 .ready .good) (s .pre .1 .valid) (s .pre .2) in (
       omega (arith, is-due (v .before)),
-      omega (arith, ap (λ (x : Report). x .count) n, noted-few (at .report) w, at .inv .1),
-      counted-next (toOptional (a .lent .sender)) (records (a .lent)) (viewNode (a .node)) (a .draws .now) (at .used) (at .i) (reached v) (at .inv .2) w (current (a .node) (l .list-after .result .members) alive deceased) (at .used + more) keeps acted,
-      rw n (sofar-more (all v) (a .draws .now) (reached v) (at .report) (at .used) (rule v) (after v) (due v) w (current (a .node) (l .list-after .result .members) alive deceased) (at .used + more) keeps (room v) acted),
+      omega (arith, ap (λ (x : Report). x .count) n, noted-few (at .report) w (old v), at .inv .1),
+      counted-next (toOptional (a .lent .sender)) (records (a .lent)) (viewNode (a .node)) (a .draws .now) (at .used) (at .i) (reached v) (at .inv .2) w (old v) (current (a .node) (l .list-after .result .members) alive deceased) (at .used + more) keeps acted,
+      rw n (sofar-more (all v) (a .draws .now) (reached v) (at .report) (at .used) (rule v) (after v) (due v) w (old v) (current (a .node) (l .list-after .result .members) alive deceased) (at .used + more) counts keeps (room v) acted),
+      omega (arith, ap (λ (x : Report). x .collected) n, counts, is-old o, few-old o, at .inv .4),
     )
 
 returns-3 : tie.Need-returns-3 Inv-loop μ-loop
@@ -254,15 +306,18 @@ handle-gossip-spec =
     (λ c κs. search needs)
     returns
     (λ c κs. search needs)
+    (λ c κs. c .before .before .before .before .before .before .before .before .loop .inv .3 .ready .heaps .alive)
+    (λ c. c .before .old-news .ensures .1)
     (λ c κs. search needs)
     (λ c κs. search needs)
     (λ c κs. search needs)
     (λ c κs. search needs)
     returns-2
-    (λ c κs. (told (c .before) .before .before .before .loop .inv .3 .ready .heaps .alive, has-room (c .before) kind.Alive))
-    (λ c κs. (told (c .before .before) .before .before .before .loop .inv .3 .ready .heaps .deceased, has-room (c .before .before) kind.Deceased))
-    (λ c κs. room (told (c .before .before .before)))
-    (λ c. let v = told (c .before .before .before .before) in omega (arith, is-due (v .before), start v .pre .1 .few))
-    (λ c. omega (arith, is-due (told (c .before .before .before .before) .before)))
+    (λ c κs. told (c .before) .before .before .before .loop .inv .3 .ready .heaps .alive)
+    tell-requires
+    (λ c κs. (told (c .before .before .before) .before .before .before .loop .inv .3 .ready .heaps .deceased, has-room (c .before .before .before) kind.Deceased))
+    note-requires
+    (λ c. let v = told (c .before .before .before .before .before) in omega (arith, is-due (v .before), start v .pre .1 .few))
+    (λ c. omega (arith, is-due (told (c .before .before .before .before .before) .before)))
     loop-again
     returns-3)

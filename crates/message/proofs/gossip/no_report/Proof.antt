@@ -9,7 +9,7 @@ use Rattle.message.proofs.gossip.no_report.Statement.{statement}
 use Rattle.message.proofs.gossip.no_report.Tie as tie
 
 returns : tie.Need-returns
-returns c = ap (λ (e : List Gossip). record { events = e; count = 0 }) (c .no-events .ensures)
+returns c = ap (λ (e : List Gossip). record { events = e; count = 0; collected = 0 }) (c .no-events .ensures)
 
 pub no-report-spec : {M : Type 1} → statement M
 no-report-spec = tie.close (tie.spec (λ c κs. search needs) returns)

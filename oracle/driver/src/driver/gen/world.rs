@@ -33,6 +33,7 @@ impl World {
             },
             own: Peer { address, number },
             tick: tick(rng),
+            collect: false,
         };
         Self {
             creation,
