@@ -18,3 +18,4 @@ pub mod Panel
 pub mod Begun
 pub mod Demand3
 pub mod Collects
+pub mod Probed

@@ -9,3 +9,4 @@ pub mod Wrong
 pub mod Differs
 pub mod Clock
 pub mod Collected
+pub mod Texts
