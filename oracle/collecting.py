@@ -449,6 +449,11 @@ def stored():
     print("# a death takes an equal number too, by gossip and by a timer, and another's events stay")
     for text in (f"ack 9 - s:9:{peer}:3 s:9:{other}:1 |", f"ack 9 - d:9:{peer}:3 |", f"wait dead {other} 1 0", "step 0 |", "timer 10"):
         print(text)
+    print("# the top goes, and of the others the last was sent less often: it climbs")
+    print(first.replace(" 6 ", " 1 "))
+    for text in (f"ack 9 - j:9:{other}:0 | 0", f"req 9 {other} |", f"req 9 {other} |", f"ack 9 - s:9:{own}:0 |", f"req 9 {other} |", f"ack 9 - j:9:{peer}:0 | 0",
+                 f"ack 9 - r:9:{peer}:1 |"):
+        print(text)
     print("# a full alive heap: 9 for an event that outdates nothing, room for one that does")
     print(first)
     for _ in range(2):

@@ -14,3 +14,5 @@ pub mod Demand3
 pub mod Auditor
 pub mod Started
 pub mod Taken
+pub mod Uncollected
+pub mod Unread

@@ -1,6 +1,7 @@
--- How many held events a call collects: at each rule that pushes, those of the alive heap before it that met the condition. For any type of address, any node and any call.
+-- What a call collects: at each rule that pushes, those of the alive heap before it that met the condition go, and how many they are is told; else both heaps are 01's. For any type of address,
+-- any node and any call.
 -- Assumes nothing.
-use mathlib.Core.Path.{_≡_, refl, sym, _∙_, ap}
+use mathlib.Core.Path.{_≡_, refl, subst}
 use mathlib.Core.Bool.{Bool, true, false}
 use mathlib.Core.List.{List, [], _∷_, _++_}
 use mathlib.Core.Option.{Option, none, some}
@@ -11,18 +12,22 @@ use Rattle.model.specs.declared.Kind.the-variants as kind
 use Rattle.model.specs.declared.Cause.{Cause}
 use Rattle.model.specs.declared.Fate.{Fate}
 use Rattle.model.specs.declared.Fate.the-variants.{Leaves, Stays, Absent}
+use Rattle.model.specs.declared.Reply.{Reply}
+use Rattle.model.specs.declared.Reply.the-variants.{Done, Already, NotDue, Refuted, Gone, Refused, RefusedAt}
 use Rattle.model.specs.Answers.{Answer, done, refused, andThen}
-use Rattle.model.specs.Words.{Address, Event, Nothing, Joined, Recovered, Suspected, Deceased, Gossip, Action, Ping, PingReq, Ack, WaitState, SendingPing, WaitingForPingAck, SendingPingReq, WaitingForPingReqAck, Declaring, Wait}
+use Rattle.model.specs.Words.{Address, Event, Nothing, Joined, Recovered, Suspected, Deceased, Gossip, unused, sendsOf, Action, Ping, PingReq, Ack, WaitState, SendingPing, WaitingForPingAck, SendingPingReq, WaitingForPingReqAck, Declaring, Wait, Timer}
+use Rattle.model.specs.Heap.{push}
+use Rattle.model.specs.Choose.{entryOf}
 use Rattle.model.specs.Members as list
-use Rattle.model.specs.Collect.{collects}
-use Rattle.model.specs.Node.{Node, Out, Effect, Stored, loaded, withMembers, quiet, andMore, pushed, emit, lists, change, leave}
+use Rattle.model.specs.Collect.{collects, cleared}
+use Rattle.model.specs.Node.{Disseminator, Node, Out, Effect, Stored, loaded, withHeap, heapOf, withMembers, quiet, andMore, collecting, pushed, emit, lists, change, leave}
 use Rattle.model.specs.Handler as handler
 use Rattle.model.specs.Detector as D
 use Rattle.model.specs.Calls as calls
 use Rattle.laws.specs.After.{After, halts, gives, after-when, after-then}
-use Rattle.history.specs.Moments.{Deed, Told, Sender, Added, Moment, momentOf, moment, silent, traceThen, stepped, traceGossip, traceSpread, traceAdmit, traceAck, traceMessage, traceTimer, endedDeed}
+use Rattle.history.specs.Moments.{Deed, Told, Sender, Added, Ended, Other, Moment, momentOf, moment, silent, traceThen, stepped, traceGossip, traceSpread, traceAdmit, traceAck, traceMessage, traceTimer, endedDeed}
 use Rattle.history.specs.Worlds.{first-cases}
-use Rattle.history.specs.Histories.{World, Call, Add, Receive, Step, Timer, Lends, outcome, momentsBy, endingAt, moments}
+use Rattle.history.specs.Histories.{World, Call, Add, Receive, Step, Timer as TimerCall, Lends, outcome, momentsBy, endingAt, rulesOf, idleOf, moments}
 
 after-any : {B : Type 0} (x : Answer B) → After (λ _. Unit {0}) x
 after-any (refused r) = halts
@@ -51,18 +56,38 @@ module _ {A : Type 0} (address : Address A) where
   collected-append [] ns = omega arith
   collected-append (m ∷ ms) ns = omega (arith, collected-append ms ns)
 
-  -- ---- each rule, on a node
-  abbrev Takes : Node A → Answer (Out A) → Type 0
-  Takes s x = After (λ o. o .collected ≡ outdatedBy s (o .said)) x
+  -- "first takes from the alive heap", whichever heap the event goes to; no death is taken
+  abbrev pub heapsAfter : Bool → Kind → Gossip A → Disseminator A → Disseminator A
+  heapsAfter on kind.Alive g d = record { alive = push unused sendsOf (cleared address on kind.Alive g (d .alive)) (entryOf address g); deceased = d .deceased }
+  heapsAfter on kind.Deceased g d = record { alive = cleared address on kind.Deceased g (d .alive); deceased = push unused sendsOf (d .deceased) (entryOf address g) }
 
-  emit-takes : (k : Kind) (e : Event A) (s s′ : Node A) (ds : List ℕ) → heapFor e ≡ k
-      → collects address (s′ .settings .collect) k (record { event = e }) (s′ .disseminator .alive) ≡ collects address (s .settings .collect) k (record { event = e }) (s .disseminator .alive)
-      → Takes s (emit address k (record { event = e }) s′ ds)
+  -- for each event that is pushed
+  abbrev pub spreadBy : Bool → List (Gossip A) → Disseminator A → Disseminator A
+  spreadBy on [] d = d
+  spreadBy on (g ∷ gs) d = spreadBy on gs (heapsAfter on (heapFor (g .event)) g d)
+
+  -- ---- each rule, on a node: the number that it tells, the heaps that it leaves, and the settings as they were
+  pub record Took (s : Node A) (o : Out A) : Type 0 where
+    pub told : o .collected ≡ outdatedBy s (o .said)
+    pub heaps : o .node .disseminator ≡ spreadBy (s .settings .collect) (o .said) (s .disseminator)
+    pub settings : o .node .settings ≡ s .settings
+
+  abbrev pub Takes : Node A → Answer (Out A) → Type 0
+  Takes s x = After (Took s) x
+
+  heaps-of : (on : Bool) (k : Kind) (g : Gossip A) (d : Disseminator A)
+      → let c = collecting address on k g d in withHeap k (push unused sendsOf (heapOf k c) (entryOf address g)) c ≡ heapsAfter on k g d
+  heaps-of on kind.Alive g d = refl
+  heaps-of on kind.Deceased g d = refl
+
+  emit-takes : (e : Event A) (s : Node A) (m : list.Members A) (ts : List (Timer A)) (ds : List ℕ)
+      → Takes s (emit address (heapFor e) (record { event = e }) (record { settings = s .settings; own = s .own; members = m; disseminator = s .disseminator; timers = ts }) ds)
   unfolding emit pushed
-  emit-takes k e s s′ ds h q =
+  emit-takes e s m ts ds =
       let g : Gossip A = record { event = e } in
-      let same = q ∙ ap (λ (j : Kind). collects address (s .settings .collect) j g (s .disseminator .alive)) (sym h) in
-      after-then {P = λ _. Unit {0}} (after-when (λ _. halts) (λ _. gives tt)) (λ d rest _. gives (omega (arith, same)))
+      let on = s .settings .collect in
+      after-then {P = λ d. d ≡ heapsAfter on (heapFor e) g (s .disseminator)} (after-when (λ _. halts) (λ _. gives (heaps-of on (heapFor e) g (s .disseminator))))
+      (λ d rest p. gives (record { told = omega arith; heaps = p; settings = refl }))
 
   -- what a verdict emits goes to its heap
   abbrev Goes : handler.News A → Type 0
@@ -83,38 +108,38 @@ module _ {A : Type 0} (address : Address A) where
   news-goes (handler.Suspect a n) own = refl
   news-goes (handler.Bury a n) own = refl
 
-  quiet-takes : (s s′ : Node A) (ds : List ℕ) → Takes s (quiet s′ ds)
+  quiet-takes : (s s′ : Node A) (ds : List ℕ) → s′ .disseminator ≡ s .disseminator → s′ .settings ≡ s .settings → Takes s (quiet s′ ds)
   unfolding quiet
-  quiet-takes s s′ ds = gives {b = record { node = s′; said = []; collected = 0 }} refl
+  quiet-takes s s′ ds e f = gives {b = record { node = s′; said = []; collected = 0 }} (record { told = refl; heaps = e; settings = f })
 
   tell-takes : (w : handler.News A) (s : Node A) (m : list.Members A) (ds : List ℕ) → Goes w → Takes s (handler.tell address w (withMembers s m) ds)
-  tell-takes handler.Silent s m ds h = quiet-takes s (withMembers s m) ds
-  tell-takes (handler.Emits k e) s m ds h = emit-takes k e s (withMembers s m) ds h refl
+  tell-takes handler.Silent s m ds h = quiet-takes s (withMembers s m) ds refl refl
+  tell-takes (handler.Emits k e) s m ds h = subst (λ (j : Kind). Takes s (emit address j (record { event = e }) (withMembers s m) ds)) h (emit-takes e s m (s .timers) ds)
 
   act-takes : (v : handler.Verdict A) (s : Node A) (ds : List ℕ) → Takes s (handler.act address v s ds)
   unfolding handler.act
   act-takes v s ds = after-then (after-any (handler.listAfter address v (s .members) ds)) (λ m rest _. tell-takes (handler.newsOf address v (s .own)) s m rest (news-goes v (s .own)))
 
-  item-takes : (e : Event A) (s : Node A) (ds : List ℕ) → Takes s (handler.item address e s ds)
+  pub item-takes : (e : Event A) (s : Node A) (ds : List ℕ) → Takes s (handler.item address e s ds)
   unfolding handler.item
   item-takes e s ds = act-takes _ s ds
 
-  admit-takes : (a : A) (s : Node A) (ds : List ℕ) → Takes s (handler.admit address a s ds)
+  pub admit-takes : (a : A) (s : Node A) (ds : List ℕ) → Takes s (handler.admit address a s ds)
   unfolding handler.admit
   admit-takes a s ds = act-takes _ s ds
 
-  suspect-takes : (a : A) (n : ℕ) (s : Node A) (ds : List ℕ) → Takes s (D.suspect address a n s ds)
+  pub suspect-takes : (a : A) (n : ℕ) (s : Node A) (ds : List ℕ) → Takes s (D.suspect address a n s ds)
   unfolding D.suspect change
-  suspect-takes a n s ds = emit-takes kind.Alive (Suspected (s .own) a n) s _ ds refl refl
+  suspect-takes a n s ds = emit-takes (Suspected (s .own) a n) s _ _ ds
 
-  end-takes : (i : ℕ) (s : Node A) (ds : List ℕ) → Takes s (D.endAt address i s ds)
+  pub end-takes : (i : ℕ) (s : Node A) (ds : List ℕ) → Takes s (D.endAt address i s ds)
   unfolding D.endAt D.byFate leave
   end-takes i s ds = by (D.fateAt address i s)
     where
       by : (v : Fate) → Takes s (D.byFate address v (D.timerAt address i s) (D.freed address i s) ds)
-      by Leaves = emit-takes kind.Deceased (Deceased (s .own) (D.timerAt address i s .addr) (D.timerAt address i s .number)) s _ ds refl refl
-      by Stays = quiet-takes s (D.freed address i s) ds
-      by Absent = quiet-takes s (D.freed address i s) ds
+      by Leaves = emit-takes (Deceased (s .own) (D.timerAt address i s .addr) (D.timerAt address i s .number)) s _ _ ds
+      by Stays = quiet-takes s (D.freed address i s) ds refl refl
+      by Absent = quiet-takes s (D.freed address i s) ds refl refl
 
   -- ---- and its moments
   abbrev Counts : List (Moment A) → Answer (Out A) → Type 0
@@ -122,7 +147,7 @@ module _ {A : Type 0} (address : Address A) where
 
   one : (d : Deed A) (s : Node A) (x : Answer (Out A)) → Takes s x → Counts (moment d s x) x
   one d s _ halts = halts
-  one d s _ (gives {b = o} p) = gives {b = o} (omega (arith, p))
+  one d s _ (gives {b = o} p) = gives {b = o} (omega (arith, p .told))
 
   -- one rule after another
   more : (ms : List (Moment A)) (x : Answer (Out A)) (l : Node A → List ℕ → List (Moment A)) (k : Node A → List ℕ → Answer (Out A)) → Counts ms x
@@ -164,7 +189,7 @@ module _ {A : Type 0} (address : Address A) where
       after-then (behind (traceGossip address gs s ds) (handler.gossip address gs s ds) (λ s′ rest. traceAck address from (some to) s′) (λ s′ rest. refl) (gossip-counts gs s ds)) (λ o rest p. gives p)
 
   -- a step is one moment
-  abbrev StepTakes : Node A → Answer (D.Stepped A) → Type 0
+  abbrev pub StepTakes : Node A → Answer (D.Stepped A) → Type 0
   StepTakes s x = After (λ e. e .effect .collected ≡ outdatedBy s (e .effect .events)) x
 
   pinged-takes : (now : ℕ) (gs : List (Gossip A)) (s₀ s : Node A) (picks : List A) → D.pinged address now gs s picks .effect .collected ≡ outdatedBy s₀ (D.pinged address now gs s picks .effect .events)
@@ -172,12 +197,12 @@ module _ {A : Type 0} (address : Address A) where
   pinged-takes now gs s₀ s [] = refl
   pinged-takes now gs s₀ s (a ∷ picks) = refl
 
-  step-takes : (st : WaitState A) (now : ℕ) (s : Node A) (ds : List ℕ) → StepTakes s (D.step address st now s ds)
+  pub step-takes : (st : WaitState A) (now : ℕ) (s : Node A) (ds : List ℕ) → StepTakes s (D.step address st now s ds)
   unfolding D.sendPing D.waited D.sendPingReq D.asked D.declare
   step-takes SendingPing now s ds = after-then (after-any (list.pickFrom (address .same) (address .blank) (s .own) none 1 (s .members) ds)) (λ p rest _. gives (pinged-takes now _ s _ (p .picks)))
   step-takes (WaitingForPingAck a n) now s ds = gives refl
   step-takes (SendingPingReq a n) now s ds =
-      after-then (suspect-takes a n s ds) (λ o rest q. after-then (after-any (D.pickGroup address a (o .node) rest)) (λ p rest₂ _. gives q))
+      after-then (suspect-takes a n s ds) (λ o rest q. after-then (after-any (D.pickGroup address a (o .node) rest)) (λ p rest₂ _. gives (q .told)))
   step-takes (WaitingForPingReqAck a n) now s ds = gives refl
   step-takes (Declaring a n) now s ds = after-when (λ _. halts) (λ _. gives refl)
 
@@ -245,8 +270,104 @@ module _ {A : Type 0} (address : Address A) where
         | true ↦ step-agrees s ms (w .wait) ds (D.step address (w .wait .state) now (loaded s) ds) (step-counts (loaded s) (D.step address (w .wait .state) now (loaded s) ds) (step-takes (w .wait .state) now (loaded s) ds))
         | false ↦ refl
       ])
-  collected-is (Timer now lent) w =
+  collected-is (TimerCall now lent) w =
       let s = w .node in
       first-cases (Agrees s (endingAt address (D.firstOver address (loaded s .settings .«suspect_timeout») now (loaded s .timers)) (loaded s)) []) (calls.timerTests address s lent) (calls.refuses s) _ (λ r. refl)
       (λ _. timer-agrees s (D.firstOver address (loaded s .settings .«suspect_timeout») now (loaded s .timers)))
   collected-is (Lends wait) w = refl
+
+  -- ---- the heaps after each rule of a call are what it pushed to those before it; a choosing of gossip and a detector's step, which choose too, are told apart
+  abbrev pub PushedAt : Deed A → Node A → List (Gossip A) → Node A → Type 0
+  PushedAt (Told e) s gs s′ = s′ .disseminator ≡ spreadBy (s .settings .collect) gs (s .disseminator)
+  PushedAt (Sender a) s gs s′ = s′ .disseminator ≡ spreadBy (s .settings .collect) gs (s .disseminator)
+  PushedAt (Added a n) s gs s′ = s′ .disseminator ≡ spreadBy (s .settings .collect) gs (s .disseminator)
+  PushedAt (Ended a n) s gs s′ = s′ .disseminator ≡ spreadBy (s .settings .collect) gs (s .disseminator)
+  PushedAt Other s gs s′ = Unit {0}
+
+  abbrev pub Pushed : List (Moment A) → Type 0
+  Pushed [] = Unit {0}
+  Pushed (m ∷ ms) = PushedAt (m .deed) (m .before) (m .said) (m .after) × Pushed ms
+
+  pushed-at : (d : Deed A) (s : Node A) (o : Out A) → Took s o → PushedAt d s (o .said) (o .node)
+  pushed-at (Told e) s o p = p .heaps
+  pushed-at (Sender a) s o p = p .heaps
+  pushed-at (Added a n) s o p = p .heaps
+  pushed-at (Ended a n) s o p = p .heaps
+  pushed-at Other s o p = tt
+
+  pushed-one : (d : Deed A) (s : Node A) (x : Answer (Out A)) → Takes s x → Pushed (moment d s x)
+  pushed-one d s _ halts = tt
+  pushed-one d s _ (gives {b = o} p) = (pushed-at d s o p, tt)
+
+  pushed-append : (ms ns : List (Moment A)) → Pushed ms → Pushed ns → Pushed (ms ++ ns)
+  pushed-append [] ns p q = q
+  pushed-append (m ∷ ms) ns p q = (p .0, pushed-append ms ns (p .1) q)
+
+  pushed-then : (x : Answer (Out A)) (l : Node A → List ℕ → List (Moment A)) → ((s : Node A) (ds : List ℕ) → Pushed (l s ds)) → Pushed (traceThen x l)
+  pushed-then (refused r) l f = tt
+  pushed-then (done o rest) l f = f (o .node) rest
+
+  pushed-gossip : (gs : List (Gossip A)) (s : Node A) (ds : List ℕ) → Pushed (traceGossip address gs s ds)
+  pushed-gossip [] s ds = tt
+  pushed-gossip (g ∷ gs) s ds =
+      let x = handler.item address (g .event) s ds in
+      pushed-append (moment (Told (g .event)) s x) (traceThen x (traceGossip address gs)) (pushed-one (Told (g .event)) s x (item-takes (g .event) s ds))
+      (pushed-then x (traceGossip address gs) (pushed-gossip gs))
+
+  pushed-admit : (from : A) (s : Node A) (ds : List ℕ) → Pushed (traceAdmit address from s ds)
+  pushed-admit from s ds =
+      let x = handler.admit address from s ds in
+      pushed-append (moment (Sender from) s x) (traceThen x (λ s′ rest. traceSpread address s′)) (pushed-one (Sender from) s x (admit-takes from s ds))
+      (pushed-then x (λ s′ rest. traceSpread address s′) (λ s′ rest. (tt, tt)))
+
+  pushed-ack : (from : A) (to : Option A) (s : Node A) → Pushed (traceAck address from to s)
+  pushed-ack from none s = (tt, tt)
+  pushed-ack from (some to) s = tt
+
+  pushed-behind : (gs : List (Gossip A)) (s : Node A) (ds : List ℕ) (l : Node A → List ℕ → List (Moment A)) → ((s′ : Node A) (rest : List ℕ) → Pushed (l s′ rest))
+      → Pushed (traceGossip address gs s ds ++ traceThen (handler.gossip address gs s ds) l)
+  pushed-behind gs s ds l f =
+      pushed-append (traceGossip address gs s ds) (traceThen (handler.gossip address gs s ds) l) (pushed-gossip gs s ds) (pushed-then (handler.gossip address gs s ds) l f)
+
+  pushed-message : (action : Action A) (gs : List (Gossip A)) (s : Node A) (ds : List ℕ) → Pushed (traceMessage address action gs s ds)
+  pushed-message (Ping from by) gs s ds = pushed-behind gs s ds (traceAdmit address from) (pushed-admit from)
+  pushed-message (PingReq from suspect) gs s ds = pushed-behind gs s ds (λ s′ rest. traceSpread address s′) (λ s′ rest. (tt, tt))
+  pushed-message (Ack from to) gs s ds = pushed-behind gs s ds (λ s′ rest. traceAck address from to s′) (λ s′ rest. pushed-ack from to s′)
+
+  pushed-step : (s : Node A) (x : Answer (D.Stepped A)) → Pushed (stepped s x)
+  pushed-step s (refused r) = tt
+  pushed-step s (done e rest) = (tt, tt)
+
+  pushed-end : (o : Option ℕ) (s : Node A) → Pushed (endingAt address o s)
+  pushed-end none s = tt
+  pushed-end (some i) s = pushed-one (endedDeed address (D.timerAt address i s)) s (D.endAt address i s []) (end-takes i s [])
+
+  pushed-rules : (c : Call A) (s : Node A) (w : Wait A) → Pushed (rulesOf address c s w)
+  pushed-rules (Add b n ds) s w =
+      pushed-one (Added b n) s (andThen (list.add (address .same) b n (s .members) ds) λ m rest. done (record { node = withMembers s m; said = []; collected = 0 }) rest)
+      (after-then (after-any (list.add (address .same) b n (s .members) ds)) (λ m rest _. gives {b = record { node = withMembers s m; said = []; collected = 0 }} {ds = rest} (record { told = refl; heaps = refl; settings = refl })))
+  pushed-rules (Receive action gs ds lent) s w = pushed-message action gs s ds
+  pushed-rules (Step now ds lent) s w = pushed-step s (D.step address (w .state) now s ds)
+  pushed-rules (TimerCall now lent) s w = pushed-end (D.firstOver address (s .settings .«suspect_timeout») now (s .timers)) s
+  pushed-rules (Lends wait) s w = tt
+
+  pushed-idle : (c : Call A) (s : Node A) → Pushed (idleOf address c s)
+  pushed-idle (Add b n ds) s = (refl, tt)
+  pushed-idle (Receive action gs ds lent) s = tt
+  pushed-idle (Step now ds lent) s = tt
+  pushed-idle (TimerCall now lent) s = tt
+  pushed-idle (Lends wait) s = tt
+
+  pushed-by : (r : Reply) (ran idle : List (Moment A)) → Pushed ran → Pushed idle → Pushed (momentsBy address r ran idle)
+  pushed-by (Done used) ran idle p q = p
+  pushed-by Already ran idle p q = q
+  pushed-by NotDue ran idle p q = tt
+  pushed-by Refuted ran idle p q = p
+  pushed-by Gone ran idle p q = p
+  pushed-by (Refused r) ran idle p q = tt
+  pushed-by (RefusedAt r at) ran idle p q = tt
+
+  pub heaps-are : (c : Call A) (w : World A) → Pushed (moments address c w)
+  heaps-are c w =
+      pushed-by (outcome address c w .outcome .reply) (rulesOf address c (loaded (w .node)) (w .wait)) (idleOf address c (loaded (w .node)))
+      (pushed-rules c (loaded (w .node)) (w .wait)) (pushed-idle c (loaded (w .node)))

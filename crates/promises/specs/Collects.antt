@@ -1,6 +1,7 @@
--- WHAT A CALL COLLECTS. The number that each call of `swim` tells is the count of held events that met the condition, at each push, by the alive heap before it.
+-- WHAT A CALL COLLECTS. The number that each call of `swim` tells is the count of held events that met the condition, at each push, by the alive heap before it; 0 with the setting off.
 -- Assumes nothing.
-use mathlib.Core.Path.{_≡_, ap, _∙_}
+use mathlib.Core.Path.{_≡_, sym, ap, _∙_}
+use mathlib.Core.Bool.{false}
 use mathlib.Core.List.{List, map}
 use Prim.Native.Nat.{ℕ}
 use lib.ListN.{length}
@@ -14,7 +15,8 @@ use Rattle.node.specs.Views.{storedView, answerOf}
 use Rattle.wait.specs.declared.Wait.{Wait}
 use Rattle.wait.specs.Views.{toWait}
 use Rattle.history.specs.Histories.{World, Call, Add, Receive, Step, Timer, moments}
-use Rattle.history.specs.Taken.{collectedIn, collected-is}
+use Rattle.history.specs.Taken.{collectedIn, collected-is, Pushed, heaps-are}
+use Rattle.history.specs.Uncollected.{off-collects-none}
 use Rattle.swim.specs.declared.Outcome.{Outcome}
 use Rattle.swim.specs.Contracts.{outcomeOf, room, Adds, Receives, Steps, EndsTimer}
 
@@ -48,3 +50,12 @@ module _ (node : Node) (wait : Wait) where
   unfolding outcomeOf answerOf
   timer-collects tick events r events′ met =
       ap (λ (x : Outcome). x .answer .collected) (met .answer) ∙ collected-is here (Timer tick (record { gossip = 0; events = length events })) handed
+
+  -- and the heaps that each of those rules leaves are what it pushed to those before it
+  pub pushes-at-each : (c : Call Addr) → Pushed here (moments here c handed)
+  pushes-at-each c = heaps-are here c handed
+
+  -- "Off, nothing is taken, and the number collected is 0."
+  pub off-counts-none : node .settings .collect ≡ false → (c : Call Addr) → counted c ≡ 0
+  unfolding storedView
+  off-counts-none off c = sym (collected-is here c handed) ∙ off-collects-none here c handed off
