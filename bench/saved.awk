@@ -7,7 +7,7 @@ BEGIN {
     for (i = 1; i <= sizes[s]; i++) image = image sprintf("%016x", i) "00" sprintf("%016x", 0)
     image = image "00"
     print "#! restore " sizes[s]
-    for (i = 1; i <= 1001; i++) print "restore 10 10 10 10 3 3 6 1169 0 " image
+    for (i = 1; i <= 1001; i++) print "restore 10 10 10 10 3 3 6 1373 0 " image
     print "#! save " sizes[s]
     for (i = 1; i <= 1001; i++) print "save 1103"
   }

@@ -2,7 +2,6 @@
 # then a remark `#! KIND MEMBERS ENTRIES` and the call that is measured. No call is refused.
 # usage: awk -f bench/scenes.awk              the calls of a common setting
 #        awk -v wide=1 -f bench/scenes.awk    the largest messages that there can be, for the stack
-#        awk -v six=1 -f bench/scenes.awk     the calls of a common setting among addresses of IPv6
 BEGIN {
   all = "add ping-bare ping-new ping req ack ack-forward step-ping step-shuffle step-await-ack step-req step-await-reqack step-declare timer"
   kind_count = split(wide ? "ping req ack ack-forward step-ping step-req" : all, kinds, " ")
@@ -11,7 +10,7 @@ BEGIN {
   heap_count = split(wide ? "0 61" : "0 50 122", heaps, " ")
   # As many records as a message of the common setting carries, or as any can.
   records = wide ? 64 : 6
-  settings = wide ? "10 10 10 10 4 8 64 1169" : "10 10 10 10 3 3 6 1169"
+  settings = wide ? "10 10 10 10 4 8 64 1373" : "10 10 10 10 3 3 6 1169"
   for (k = 1; k <= kind_count; k++)
     for (s = 1; s <= size_count; s++)
       for (h = 1; h <= heap_count; h++) {
@@ -21,9 +20,8 @@ BEGIN {
       }
 }
 
-# 10.0.0.0, or 2001:db8::, plus `place`, port 7000.
+# 10.0.0.0 plus `place`, port 7000.
 function peer(place) {
-  if (six) return "2306139568115548160." place ".7000"
   return sprintf("%.0f", (167772160 + place) * 65536 + 7000)
 }
 

@@ -1,22 +1,18 @@
--- What the bounds are for. At the top: 65 records of 18 bytes make 1170, a byte more than `max_size` may be, and 64 places would not be enough for them. At the floor: every gossip
--- fits, and the longest leaves no byte.
+-- What the bound is for: 65 records of 18 bytes make 1170, a byte more than `max_size` may be, and 64 places would not be enough for them.
 -- Assumes nothing.
 use mathlib.Core.Path.{_≡_, refl, ap, _∙_}
 use mathlib.Core.List.{List, [], _∷_}
-use Prim.Native.Nat.{ℕ, zero, suc, _+_, _-_, _*_, _^_, _≤_, _<_}
+use Prim.Native.Nat.{ℕ, zero, suc, _+_, _*_, _<_}
 use native.Mathlib.Omega.{arith}
-use lib.Dec.{lit<, lit≤}
+use lib.Dec.{lit<}
 use lib.ListN.{length}
-use Rattle.model.specs.Bounds.{least-size, greatest-size}
+use Rattle.model.specs.Bounds.{greatest-size}
 use Rattle.model.specs.Size.{varintFrom, varintLength, numberSize, sizeOver, sizeOf}
 use Rattle.address.specs.Here.{Addr, here}
 use Rattle.address.specs.Families.{charsOf}
 use Rattle.ip6.specs.Text6.{digit, numeralIn, leading, longest, place, behind, joined, without, plain, mapped, dotted, ip6, text6}
-use Rattle.types.specs.declared.Event.{Event}
-use Rattle.types.specs.declared.Event.the-variants.{Nothing, Joined, Recovered, Suspected, Deceased}
+use Rattle.types.specs.declared.Event.the-variants.{Joined}
 use Rattle.types.specs.declared.Gossip.{Gossip}
-use Rattle.types.specs.Views.{toGossip}
-use Rattle.types.specs.SizeLaws.{size-over-here}
 use Rattle.disseminate.specs.Fit.{least-gossip, most-chosen}
 use Rattle.fits.specs.Sizes.{sizes, buffer, lengthOf}
 use Rattle.fits.specs.Length.{sizesOf}
@@ -54,23 +50,3 @@ one-more = record { counted = small-long (most-chosen + 1); sized = omega (arith
 -- the longest message that the bound admits
 pub longest-message : lengthOf most-chosen greatest-size ≡ 1398
 longest-message = refl
-
--- EVERY GOSSIP IS WITHIN THE SMALLEST `max_size`: none is held that could never be sent
-abbrev pub sizeOfEvent : Event → ℕ
-sizeOfEvent e = sizeOf here (toGossip (record { event = e }))
-
-pub each-fits : (e : Event) → sizeOfEvent e ≤ least-size
-unfolding sizeOf
-each-fits Nothing = lit≤ tt
-each-fits (Joined f s n) = size-over-here f s n .1
-each-fits (Recovered f s n) = size-over-here f s n .1
-each-fits (Suspected f s n) = size-over-here f s n .1
-each-fits (Deceased f s n) = size-over-here f s n .1
-
--- an address with the longest text, and a join of it at the last number
-abbrev pub furthest : Addr
-furthest = record { family = 6; port = 65535; high = 2 ^ 64 - 1; low = 2 ^ 64 - 1 }
-
-pub one-takes-it-all : sizeOfEvent (Joined furthest furthest (2 ^ 64 - 1)) ≡ least-size
-unfolding varintFrom varintLength numberSize sizeOver sizeOf charsOf digit numeralIn leading longest place behind joined without plain mapped dotted ip6 text6
-one-takes-it-all = refl

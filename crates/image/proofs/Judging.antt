@@ -7,7 +7,7 @@ use Prim.Native.Nat.{ℕ, _+_, _*_, _≤_, _<_}
 use native.Mathlib.Omega.{arith}
 use lib.Dec.{leb, eqb}
 use lib.ListN.{length, take, drop, length-map}
-use lib.Seq.{drop-drop}
+use lib.Seq.{drop-drop, take-at}
 use borrow.Author.Tests.{le-leb, lt-leb, leb-true, eqb-true, not-true, not-false}
 use Rattle.model.specs.Rows.{pick, every, padTo}
 use Rattle.model.specs.Sound.{distinct, permutes, positioned}
@@ -20,7 +20,7 @@ use Rattle.model.specs.Members.{addrs}
 use Rattle.member.specs.declared.Member.{Member}
 use Rattle.member.specs.Views.{toMember, nobody}
 use Rattle.numbers.specs.Numbers.{numberOf}
-use Rattle.numbers.specs.Codec.{many-count}
+use Rattle.numbers.specs.Codec.{And, many-count}
 use Rattle.image.specs.Image.{Entry, Image, head, entry, layout, ownIn, entriesIn, positionIn, addrIn, memberOf, savedOf, stateInRule, addressInRule, marked, counted, sized, fields, inRule}
 use Rattle.image.specs.Forms.{alike, needsWide, wideOf, formIn, inVersion}
 use Rattle.image.specs.Round.{entries-valid}

@@ -3,9 +3,10 @@
 use mathlib.Core.Path.{_≡_, refl, ap, sym, _∙_, subst}
 use mathlib.Core.Bool.{Bool, true, false, _||_}
 use mathlib.Core.List.{List, [], _∷_, _++_, map}
-use Prim.Native.Nat.{ℕ, _+_, _*_, _≤_, _<_}
+use Prim.Native.Nat.{ℕ, zero, suc, _+_, _*_, _-_, _≤_, _<_}
 use native.Mathlib.Omega.{arith}
 use native.Mathlib.Numerals.{add-one}
+use lib.Dec.{leb}
 use lib.ListN.{length, getD, take, drop, length-append, length-map}
 use lib.Seq.{take-suc, length-take-le}
 use borrow.Author.Tests.{le-leb, lt-leb}
@@ -18,11 +19,12 @@ use Rattle.member.specs.Views.{toMember, nobody}
 use Rattle.numbers.specs.Numbers.{bigEndian}
 use Rattle.numbers.specs.NumberLaws.{big-long}
 use Rattle.varint.specs.Laid.{Laid, Room, laid-none, laid-then, laid-as, laid-first}
-use Rattle.numbers.specs.Codec.{putMany, many-wide, many-none, many-snoc}
+use Rattle.numbers.specs.Codec.{And, putMany, many-wide, many-none, many-snoc}
 use Rattle.image.specs.Image.{opening, Entry, head, entry, entryOf, stateNumber, image}
 use Rattle.image.specs.Forms.{some, needsWide, imageOf}
 use Rattle.image.specs.Versions.{v1, v2, isV6, versions, version}
 use Rattle.image.specs.Views.{addressBytes, memberBytes, membersBytes, headBytes, addressesOf, savedAs, placeAt, writtenOf, rowOf}
+use Rattle.image.specs.declared.Written.{Written}
 use Rattle.image.proofs.Loading.{one-more}
 use Rattle.image.specs.declared.Written.the-variants.{TooLong, Whole}
 

@@ -8,17 +8,19 @@ use native.Mathlib.Omega.{arith}
 use native.Mathlib.Numerals.{add-one}
 use native.Mathlib.Nat.{mul-le-mul-right, suc-mul}
 use lib.Dec.{leb, eqb}
-use lib.ListN.{length, getD, set, take, drop, replicate, length-map}
-use lib.Seq.{take-suc, take-all, drop-drop}
+use lib.ListN.{length, getD, set, take, drop, replicate, length-append, length-map, length-drop, List·getD-map}
+use lib.Seq.{take-suc, take-all, length-take-le, drop-drop}
 use borrow.Author.Tests.{le-leb, lt-leb, eq-eqb, ne-eqb}
+use Rattle.model.specs.declared.State.{State}
 use Rattle.model.specs.declared.State.the-variants.{Alive, Pending, Suspected}
 use Rattle.model.specs.Rows.{pick, every, padTo}
 use Rattle.laws.specs.Pad.{pad-step}
 use Rattle.address.specs.Here.{Addr, here}
+use Rattle.model.specs.Words as words
 use Rattle.member.specs.declared.Member.{Member}
-use Rattle.member.specs.Views.{nobody}
+use Rattle.member.specs.Views.{toMember, nobody}
 use Rattle.numbers.specs.Numbers.{numberOf}
-use Rattle.numbers.specs.Codec.{getMany, many-count, many-at}
+use Rattle.numbers.specs.Codec.{And, getMany, many-count, many-at}
 use Rattle.image.specs.Image.{opening, Entry, head, entry, layout, addrIn, stateOf, stateInRule, marked, counted, sized}
 use Rattle.image.specs.Forms.{formIn}
 use Rattle.image.specs.Versions.{v1, v2, versions, version}
@@ -26,6 +28,7 @@ use Rattle.image.specs.Views.{placeOf, entryIn, entryAt, placeAt, readMe
 use Rattle.image.specs.declared.Verdict.{Verdict}
 use Rattle.image.specs.declared.Verdict.the-variants.{Accepted, WrongMark, WrongLength}
 use Rattle.image.specs.declared.Place.{Place}
+use Rattle.image.specs.declared.Rows.{Rows}
 
 pub state-alive : (n : ℕ) → n ≡ 0 → Alive ≡ stateOf n
 unfolding stateOf
@@ -78,11 +81,11 @@ opening-wide w e = ap (λ (u : Bool). opening (version u)) (sym e)
 pub opening-narrow : (w : Bool) → w ≡ false → 331825152001 ≡ opening (version w)
 opening-narrow w e = ap (λ (u : Bool). opening (version u)) (sym e)
 
-pub few-bytes : (i p : ℕ) → i ≤ 255 → p ≤ 28 → i * p ≤ 7140
-few-bytes i p h k = let e : i * p ≤ 255 * p = mul-le-mul-right p h in omega (arith, e, k)
+pub wide-at : (w : Bool) (i : ℕ) → w ≡ true → 25 + i * 28 ≡ placeAt w i
+wide-at w i e = ap (λ (u : Bool). placeAt u i) (sym e)
 
-pub place-begins : (w : Bool) (i h p : ℕ) → h ≡ head (version w) .width → p ≡ entry (version w) .width → h + i * p ≡ placeAt w i
-place-begins w i h p e f = λ j. e j + i * f j
+pub narrow-at : (w : Bool) (i : ℕ) → w ≡ false → 14 + i * 17 ≡ placeAt w i
+narrow-at w i e = ap (λ (u : Bool). placeAt u i) (sym e)
 
 -- a place
 pub place-read : (w : Bool) (bytes : List ℕ) (at k : ℕ) (a : Addr) (s n : ℕ) → k ≡ version w .address .width → a ≡ version w .address .get (drop at bytes)

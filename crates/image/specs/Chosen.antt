@@ -1,9 +1,10 @@
 -- What is saved in the version of its list is read again, and what is read in its version is the one list with that image. For any type of address and two forms of its bytes.
 -- Assumes nothing.
 use mathlib.Core.Path.{_≡_, refl, ap, sym, _∙_, subst}
-use mathlib.Core.Bool.{Bool, true, false, _&&_, _||_}
+use mathlib.Core.Bool.{Bool, true, false, not, _&&_, _||_}
 use mathlib.Core.List.{List, [], _∷_}
 use Prim.Native.Nat.{ℕ}
+use native.Mathlib.Omega.{arith}
 use lib.Dec.{eqb, leb}
 use lib.ListN.{length}
 use borrow.Author.Tests.{eqb-true, ne-eqb}
@@ -13,7 +14,7 @@ use Rattle.model.specs.Members.{addrs}
 use Rattle.laws.specs.Bools.{and-split, and-join}
 use Rattle.numbers.specs.Numbers.{Bytes}
 use Rattle.numbers.specs.Codec.{number, All}
-use Rattle.image.specs.Image.{opening, Saved, image, marked}
+use Rattle.image.specs.Image.{Form, opening, Saved, savedOf, image, marked, fields}
 use Rattle.image.specs.Forms.{Forms, some, alike, form, needsWide, wideOf, formOf, imageOf, formIn, saidBy, inVersion, Fits, Sure}
 use Rattle.image.specs.Round.{Savable, Says, says-image, image-read}
 

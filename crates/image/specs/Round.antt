@@ -6,7 +6,7 @@ use mathlib.Core.List.{List, [], _∷_, map, append-nil}
 use Prim.Native.Nat.{ℕ, zero, suc, _^_, _≤_, _<_}
 use native.Mathlib.Omega.{arith}
 use lib.Dec.{eqb, ltb, leb, lit<}
-use lib.ListN.{length, drop, length-map}
+use lib.ListN.{length, take, drop, length-map}
 use lib.Seq.{take-all}
 use borrow.Author.Tests.{le-leb, leb-true, eq-eqb, eqb-true, ltb-true}
 use Rattle.model.specs.declared.State.{State}

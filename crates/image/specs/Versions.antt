@@ -8,7 +8,7 @@ use native.Mathlib.Omega.{arith}
 use lib.Dec.{eqb, lit<}
 use borrow.Author.Tests.{eq-eqb}
 use Rattle.address.specs.Here.{Addr, here}
-use Rattle.address.specs.Families.{Four, in-range-is}
+use Rattle.address.specs.Families.{Four, Six, in-range-is}
 use Rattle.numbers.specs.Numbers.{bigEndian}
 use Rattle.numbers.specs.NumberLaws.{big-none, big-more}
 use Rattle.numbers.specs.Codec.{Codec, Exact, number, number-exact, And, both, both-exact, via, via-exact}
@@ -60,6 +60,7 @@ opens-with = (refl, refl)
 -- the 8 bytes of version 1 are one number
 pub one-number : (a : Addr) → a .port < 65536 → v1 .address .put a ≡ bigEndian 8 (a .low * 65536 + a .port)
 one-number a h =
+    let n : ℕ = a .low * 65536 + a .port in
     let l : (a .low * 65536 + a .port) / 256 / 256 ≡ a .low = omega arith in
     let q : (a .low * 65536 + a .port) / 256 % 256 ≡ a .port / 256 % 256 = omega arith in
     let r : (a .low * 65536 + a .port) % 256 ≡ a .port % 256 = omega arith in
@@ -88,16 +89,15 @@ exact1 =
     (λ a h. let f = fits1 a h in λ i. record { family = sym (f .family) i; port = a .port; high = sym (f .high) i; low = a .low })
     (λ p. refl)
 
--- each field has its bytes
-record Small (a : Addr) : Type 0 where
+pub record Narrow (a : Addr) : Type 0 where
   pub family : a .family < 256
   pub high : a .high < 256 ^ 8
   pub low : a .low < 256 ^ 8
   pub port : a .port < 256 ^ 2
 
-fits2 : (a : Addr) → here .valid a ≡ true → Small a
+fits2 : (a : Addr) → here .valid a ≡ true → Narrow a
 fits2 a h =
-    in-range-is a (Small a) h
+    in-range-is a (Narrow a) h
     (λ s. record { family = omega (arith, s .family); high = s .high; low = s .low; port = s .port })
     (λ f. record { family = omega (arith, f .family); high = omega (arith, f .high); low = omega (arith, f .low); port = f .port })
 

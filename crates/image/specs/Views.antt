@@ -1,6 +1,6 @@
 -- The words of the contracts: what is written, and what is read.
 -- Assumes nothing.
-use mathlib.Core.Bool.{Bool, _&&_}
+use mathlib.Core.Bool.{Bool, true, false, _&&_}
 use mathlib.Core.List.{List, [], _++_, map}
 use Prim.Native.Nat.{ℕ, _+_, _*_}
 use lib.Dec.{leb}
@@ -12,9 +12,9 @@ use Rattle.model.specs.Members.{addrs}
 use Rattle.model.specs.Sound.{distinct, positioned}
 use Rattle.member.specs.declared.Member.{Member}
 use Rattle.member.specs.Views.{toMember, fromMember, nobody}
-use Rattle.numbers.specs.Codec.{number, putMany}
+use Rattle.numbers.specs.Codec.{number, And, putMany}
 use Rattle.image.specs.Image.{opening, head, entry, Entry, Image, addrIn, stateIn, numberIn, entryOf, memberOf, stateInRule, Saved, ownIn, entriesIn, positionIn, marked, sized, fields, inRule}
-use Rattle.image.specs.Forms.{alike, needsWide, formIn, inVersion}
+use Rattle.image.specs.Forms.{alike, needsWide, formIn, fieldsIn, inVersion}
 use Rattle.image.specs.Versions.{versions, version}
 use Rattle.image.specs.declared.Written.{Written}
 use Rattle.image.specs.declared.Written.the-variants.{TooLong, Whole}

@@ -54,7 +54,7 @@ pub struct Loaded {
     pub position: usize,
 }
 
-// The bytes M, B, R, 0 and the version, as a number. Version 2 is the wide one, in which an address takes 19 bytes for 8.
+// The bytes M, B, R, 0 and the version, as a number. Version 2 is wide: its addresses take 19 bytes, those of version 1 take 8.
 fn mark_of(wide: bool) -> u64
     ensures { λ r. ⌜ r ≡ opening (version wide) ⌝ }
 {
@@ -64,7 +64,6 @@ fn mark_of(wide: bool) -> u64
     331825152001
 }
 
-// The bytes of an address.
 pub fn address_size(wide: bool) -> usize
     ensures { λ r. ⌜ (r ≡ version wide .address .width) × (8 ≤ r) × (r ≤ 19) ⌝ }
 {
@@ -93,7 +92,10 @@ pub fn place_at(i: usize, wide: bool) -> usize
     requires { ⌜ i ≤ 255 ⌝ }
     ensures { λ r. ⌜ (r ≡ placeAt wide i) × (r ≤ 7165) ⌝ }
 {
-    head_size(wide) + i * place_size(wide)
+    if wide {
+        return 25 + i * 28;
+    }
+    14 + i * 17
 }
 
 // Does an address need version 2?

@@ -3,11 +3,12 @@
 use mathlib.Core.Path.{_≡_, refl, ap, sym, _∙_, subst}
 use mathlib.Core.Bool.{Bool, true, false, not, _&&_}
 use mathlib.Core.List.{List, [], _∷_, map}
-use Prim.Native.Nat.{ℕ, _^_, _≤_, _<_}
+use Prim.Native.Nat.{ℕ, zero, suc, _+_, _-_, _^_, _≤_, _<_}
 use native.Mathlib.Omega.{arith}
 use lib.ListN.{length, length-map}
-use lib.Dec.{leb}
+use lib.Dec.{eqb, ltb, leb}
 use borrow.Author.Tests.{not-true, leb-true}
+use Rattle.model.specs.declared.State.{State}
 use Rattle.model.specs.declared.State.the-variants.{Alive}
 use Rattle.model.specs.declared.Refusal.{Refusal}
 use Rattle.model.specs.declared.Refusal.the-variants.{Setting, WrongMark, WrongLength, OutOfRule}
@@ -19,18 +20,18 @@ use Rattle.model.specs.Node.{Node, Stored, stored}
 use Rattle.model.specs.Sound.{inRange, distinct, positioned}
 use Rattle.model.specs.Calls.{Created, created, notCreated, firstOf}
 use Rattle.laws.specs.Bools.{and-split, and-join}
-use Rattle.laws.specs.Counts.{has-is}
+use Rattle.laws.specs.Counts.{has-le, has-none, has-is}
 use Rattle.laws_list.specs.Whole.{Whole}
 use Rattle.laws_list.specs.Distinct.{once-distinct}
 use Rattle.laws_node.specs.Good.{Good, le-positioned}
 use Rattle.history.specs.Beginnings.{Restart, InRule, Gave, restarts}
 use Rattle.history.specs.Worlds.{first-good}
 use Rattle.numbers.specs.Numbers.{Bytes}
-use Rattle.image.specs.Image.{addrIn, ownIn, entriesIn, positionIn, memberOf, Saved, marked, sized, stateInRule, addressInRule, inRule}
+use Rattle.image.specs.Image.{Image, addrIn, ownIn, entriesIn, positionIn, memberOf, Saved, marked, sized, stateInRule, addressInRule, inRule}
 use Rattle.image.specs.Forms.{Forms, imageOf, formIn, fieldsIn, saidBy, inVersion, Sure}
 use Rattle.image.specs.Round.{entries-valid, members-addrs, Numbered, Savable}
 use Rattle.image.specs.Chosen.{Tells, image-told}
-use Rattle.saving.specs.Saving.{recordOf, inOrder, savedList, restoredNode, restore}
+use Rattle.saving.specs.Saving.{recordOf, inOrder, savedList, restoredNode, restoreTests, restore}
 
 -- what a list that is told by its records says, and what its records in probing order say
 module _ {A : Type 0} (address : Address A) (lawful : Lawful address) where

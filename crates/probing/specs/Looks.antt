@@ -1,17 +1,16 @@
--- A pick of k addresses advances at most 3k times, and 5k with an exclusion: however many looks it is allowed. What is counted are the advances of the rule `seek`: its members
--- and draws are those of so many.
+-- A pick of k addresses advances at most 3k times, and 5k with an exclusion: however many looks it is allowed.
 -- Assumes nothing.
 use mathlib.Core.Path.{_≡_, refl}
 use mathlib.Core.Bool.{Bool, true, false}
-use mathlib.Core.List.{List, [], _∷_, _++_}
+use mathlib.Core.List.{List}
 use mathlib.Core.Option.{Option, none, some}
-use Prim.Native.Nat.{ℕ, zero, suc, _+_, _-_, _*_, _≤_, _<_, min}
+use Prim.Native.Nat.{ℕ, zero, suc, _+_, _-_, _*_, _≤_, _<_}
 use native.Mathlib.Omega.{arith}
 use lib.ListN.{length, getD, drop}
 use Rattle.model.specs.Rows.{pick}
-use Rattle.model.specs.Answers.{Answer, done, refused, andThen}
+use Rattle.model.specs.Answers.{done, refused}
 use Rattle.laws.specs.After.{given}
-use Rattle.model.specs.Members.{Members, Picked, advance, passed, looks, cap, seek, pickFrom}
+use Rattle.model.specs.Members.{Members, advance, passed, looks, cap}
 use Rattle.laws_list.specs.Whole.{Whole}
 use Rattle.laws_pick.specs.Picks.{Drawn, Moved, advance-drawn, after-drawn, room, cost, cost-le, cost-pos, pays, skips-room, skips-drop}
 
@@ -83,60 +82,3 @@ module _ {A : Type 0} (same : A → A → Bool) (blank own : A) where
                   (omega (arith, skips-drop same blank own e (r .position) (r .order), skips-room same blank own e r w)),
             )
       ]) refl
-
-  -- ---- of the rule itself
-  -- the order advanced n times
-  abbrev pub advances : ℕ → Members A → List ℕ → Answer (Members A)
-  advances zero m ds = done m ds
-  advances (suc n) m ds = andThen (advance blank m ds) λ m′ rest. advances n m′ rest
-
-  -- where a pick leaves the order and the draws
-  abbrev pub leaves : Answer (Picked A) → Answer (Members A)
-  leaves x = andThen x λ p rest. done (p .members) rest
-
-  seek-advances : (f : ℕ) (e : Option A) (k : ℕ) (got : List A) (m : Members A) (ds : List ℕ)
-      → leaves (seek same blank own f e k got m ds) ≡ advances (looksTaken f e k m ds) m ds
-  unfolding seek looksTaken
-  seek-advances zero e zero got m ds = refl
-  seek-advances zero e (suc k) got m ds = refl
-  seek-advances (suc f) e zero got m ds = refl
-  seek-advances (suc f) e (suc k) got m ds =
-      let x = getD (m .order) (m .position) blank in
-      (elim (advance blank m ds) as (λ y. advance blank m ds ≡ y
-      → leaves (andThen y λ m′ rest. elim (passed same blank own e x) [
-        | true ↦ seek same blank own f e (suc k) got m′ rest
-        | false ↦ seek same blank own f e k (got ++ (x ∷ [])) m′ rest
-      ])
-      ≡ advances (elim y [
-        | refused r ↦ 1
-        | done m′ rest ↦ suc (looksTaken f e (pick (passed same blank own e x) (suc k) k) m′ rest)
-      ]) m ds) [
-        | refused r ↦ λ q. rw q refl
-        | done m′ rest ↦ λ q.
-            rw q
-            (elim (passed same blank own e x) as (λ u. leaves (elim u [
-              | true ↦ seek same blank own f e (suc k) got m′ rest
-              | false ↦ seek same blank own f e k (got ++ (x ∷ [])) m′ rest
-            ])
-            ≡ advances (looksTaken f e (pick u (suc k) k) m′ rest) m′ rest) [
-              | true ↦ seek-advances f e (suc k) got m′ rest
-              | false ↦ seek-advances f e k (got ++ (x ∷ [])) m′ rest
-            ])
-      ]) refl
-
-  -- "a pick of k, where k is after the cap, advances the order at most 3k times without an exclusion and 5k with one": the order and the draws that a pick leaves, or its
-  -- refusal, are those of n advances, and n is no greater
-  abbrev pub Advances : ℕ → Option A → ℕ → Members A → List ℕ → Type 0
-  Advances most e wanted r ds = (n : ℕ) × (n ≤ most) × (leaves (pickFrom same blank own e wanted r ds) ≡ advances n r ds)
-
-  pick-advances : (e : Option A) (wanted : ℕ) (r : Members A) (ds : List ℕ) → Whole same r → Advances (looks same blank own e * cap same blank own e wanted (length (r .order))) e wanted r ds
-  unfolding pickFrom
-  pick-advances e wanted r ds w =
-      let k = cap same blank own e wanted (length (r .order)) in
-      (looksTaken (looks same blank own e * k) e k r ds, pick-looks (looks same blank own e * k) e wanted r ds w, seek-advances (looks same blank own e * k) e k [] r ds)
-
-  pub pick-advances-3k : (wanted : ℕ) (r : Members A) (ds : List ℕ) → Whole same r → Advances (3 * min wanted (length (r .order) - 1)) none wanted r ds
-  pick-advances-3k wanted r ds w = pick-advances none wanted r ds w
-
-  pub pick-advances-5k : (x : A) (wanted : ℕ) (r : Members A) (ds : List ℕ) → Whole same r → Advances (5 * min wanted (length (r .order) - 2)) (some x) wanted r ds
-  pick-advances-5k x wanted r ds w = pick-advances (some x) wanted r ds w

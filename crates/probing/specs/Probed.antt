@@ -18,7 +18,7 @@ use Rattle.laws_list.specs.Whole.{Whole}
 use Rattle.laws_pick.specs.Picks.{Moved, advance-drawn, after-drawn, here, cost, cost-le, cost-pos, pays, skips-room, skips-drop}
 
 module _ {A : Type 0} (same : A → A → Bool) (test : Test same) (blank own b : A) where
-  abbrev pub peers : List A → ℕ
+  abbrev peers : List A → ℕ
   peers [] = 0
   peers (x ∷ l) = one (not (same own x)) + peers l
 
@@ -36,15 +36,15 @@ module _ {A : Type 0} (same : A → A → Bool) (test : Test same) (blank own b 
   peers-drop (suc i) (x ∷ l) = omega (arith, peers-drop i l)
 
   -- how many picks it can take until b is picked, from what is left of the round, of n peers
-  unfoldable pub away : ℕ → List A → ℕ
+  away : ℕ → List A → ℕ
   away n l = peers l + pick (has same b l) 0 n
 
   -- own and b are listed, and b is a peer
-  pub record Ready (n : ℕ) (r : Members A) : Type 0 where
-    pub whole : Whole same r
-    pub mine : occurs same own (addrs (r .table)) ≡ 1
-    pub there : occurs same b (addrs (r .table)) ≡ 1
-    pub many : length (r .order) ≡ suc n
+  record Ready (n : ℕ) (r : Members A) : Type 0 where
+    whole : Whole same r
+    mine : occurs same own (addrs (r .table)) ≡ 1
+    there : occurs same b (addrs (r .table)) ≡ 1
+    many : length (r .order) ≡ suc n
 
   ready-moved : (n : ℕ) (r r′ : Members A) → Ready n r → Moved same blank own r r′ → Ready n r′
   ready-moved n r r′ y m =
@@ -89,10 +89,9 @@ module _ {A : Type 0} (same : A → A → Bool) (test : Test same) (blank own b 
       ]))
 
   -- a ping's pick gives one address: b, or one that brings b nearer
-  pub record Nearer (n : ℕ) (r : Members A) (p : Picked A) : Type 0 where
-    pub ready : Ready n (p .members)
-    pub one-picked : (x : A) × (p .picks ≡ x ∷ [])
-    pub nearer : (has same b (p .picks) ≡ true) ⊎ (suc (away n (drop (p .members .position) (p .members .order))) ≤ away n (drop (r .position) (r .order)))
+  record Nearer (n : ℕ) (r : Members A) (p : Picked A) : Type 0 where
+    ready : Ready n (p .members)
+    nearer : (has same b (p .picks) ≡ true) ⊎ (suc (away n (drop (p .members .position) (p .members .order))) ≤ away n (drop (r .position) (r .order)))
 
   flip-false : (x y : A) → same x y ≡ false → same y x ≡ false
   flip-false x y p =
@@ -121,12 +120,11 @@ module _ {A : Type 0} (same : A → A → Bool) (test : Test same) (blank own b 
         | true ↦ λ q.
             let e : away n (drop (r .position) (r .order)) ≡ away n (drop (r′ .position) (r′ .order)) =
             away-moved n r r′ y m (own-not (getD (r .order) (r .position) blank) o q) ∙ rw q (omega arith) in
-            after-map (λ p c. record { ready = c .ready; one-picked = c .one-picked; nearer = ⊎-elim (λ z. inl z) (λ z. inr (omega arith)) (c .nearer) })
+            after-map (λ p c. record { ready = c .ready; nearer = ⊎-elim (λ z. inl z) (λ z. inr (omega arith)) (c .nearer) })
             (seek-nearer f n r′ rest h (ready-moved n r r′ y m) o (omega (arith, pays same blank own none r r′ (y .whole) (omega (arith, y .many)) m q)))
         | false ↦ λ q.
             gives (record {
               ready = ready-moved n r r′ y m;
-              one-picked = (getD (r .order) (r .position) blank, refl);
               nearer =
                   (elim (same b (getD (r .order) (r .position) blank)) as (λ v. same b (getD (r .order) (r .position) blank) ≡ v
                   → (has same b (getD (r .order) (r .position) blank ∷ []) ≡ true)
@@ -137,7 +135,7 @@ module _ {A : Type 0} (same : A → A → Bool) (test : Test same) (blank own b 
             })
       ]) refl)
 
-  pub pick-nearer : (n : ℕ) (r : Members A) (ds : List ℕ) → 0 < n → Ready n r → same own b ≡ false → After (Nearer n r) (pickFrom same blank own none 1 r ds)
+  pick-nearer : (n : ℕ) (r : Members A) (ds : List ℕ) → 0 < n → Ready n r → same own b ≡ false → After (Nearer n r) (pickFrom same blank own none 1 r ds)
   unfolding pickFrom
   pick-nearer n r ds h y o =
       let e : min 1 (length (r .order) - 1) ≡ 1 = omega (arith, y .many) in
@@ -152,7 +150,7 @@ module _ {A : Type 0} (same : A → A → Bool) (test : Test same) (blank own b 
       andThen (pickFrom same blank own none 1 r ds) λ p _.
       andThen (pings dss (p .members)) λ q rest. done (record { picks = p .picks ++ q .picks; members = q .members }) rest
 
-  pub has-left : (l m : List A) → has same b l ≡ true → has same b (l ++ m) ≡ true
+  has-left : (l m : List A) → has same b l ≡ true → has same b (l ++ m) ≡ true
   has-left [] m e = cc
   has-left (x ∷ l) m e =
       (elim (same b x) as (λ u. pick u true (has same b l) ≡ true → pick u true (has same b (l ++ m)) ≡ true) [
@@ -160,7 +158,7 @@ module _ {A : Type 0} (same : A → A → Bool) (test : Test same) (blank own b 
         | false ↦ λ h. has-left l m h
       ]) e
 
-  pub has-right : (l m : List A) → has same b m ≡ true → has same b (l ++ m) ≡ true
+  has-right : (l m : List A) → has same b m ≡ true → has same b (l ++ m) ≡ true
   has-right [] m e = e
   has-right (x ∷ l) m e =
       elim (same b x) as (λ u. pick u true (has same b (l ++ m)) ≡ true) [
@@ -168,7 +166,7 @@ module _ {A : Type 0} (same : A → A → Bool) (test : Test same) (blank own b 
         | false ↦ has-right l m e
       ]
 
-  pub away-pos : (n : ℕ) (l : List A) → 0 < n → same own b ≡ false → 0 < away n l
+  away-pos : (n : ℕ) (l : List A) → 0 < n → same own b ≡ false → 0 < away n l
   unfolding away
   away-pos n [] h o = omega arith
   away-pos n (x ∷ l) h o =
@@ -202,13 +200,14 @@ module _ {A : Type 0} (same : A → A → Bool) (test : Test same) (blank own b 
         | false ↦ λ q k. omega (arith, lacks i l o (omega arith) e)
       ]) refl h
 
-  -- from any place of the order b is at most 2n - 1 pings away
-  pub away-most : (n : ℕ) (r : Members A) → Ready n r → same own b ≡ false → (0 < n) × (away n (drop (r .position) (r .order)) ≤ 2 * n - 1)
+  -- from any place of the order, 2n - 1 pings reach b
+  pub probed : (dss : List (List ℕ)) (n : ℕ) (r : Members A) → Whole same r → occurs same own (addrs (r .table)) ≡ 1 → occurs same b (addrs (r .table)) ≡ 1
+      → same own b ≡ false → length (r .table) ≡ suc n → length dss ≡ 2 * n - 1 → After (λ q. has same b (q .picks) ≡ true) (pings dss r)
   unfolding away
-  away-most n r y o =
-      let w = y .whole in
-      let all : peers (r .order) ≡ n = omega (arith, peers-own (r .order), w .counts own, y .mine, y .many) in
-      let some-b : 0 < occurs same b (r .order) = omega (arith, w .counts b, y .there) in
+  probed dss n r w m t o l k =
+      let y : Ready n r = record { whole = w; mine = m; there = t; many = w .long ∙ l } in
+      let all : peers (r .order) ≡ n = omega (arith, peers-own (r .order), w .counts own, w .long) in
+      let some-b : 0 < occurs same b (r .order) = omega (arith, w .counts b) in
       let gone : drop (length (r .order)) (r .order) ≡ [] = drop-of-length-le (r .order) {i = length (r .order)} (omega arith) in
       let pos : 0 < n = omega (arith, lacks (length (r .order)) (r .order) o some-b (rw gone refl)) in
       let near : peers (drop (r .position) (r .order)) + pick (has same b (drop (r .position) (r .order))) 0 n ≤ 2 * n - 1 =
@@ -216,12 +215,4 @@ module _ {A : Type 0} (same : A → A → Bool) (test : Test same) (blank own b 
         | true ↦ λ _. omega (arith, peers-drop (r .position) (r .order))
         | false ↦ λ e. omega (arith, lacks (r .position) (r .order) o some-b e)
       ]) refl in
-      (pos, near)
-
-  -- so 2n - 1 pings reach it
-  pub probed : (dss : List (List ℕ)) (n : ℕ) (r : Members A) → Whole same r → occurs same own (addrs (r .table)) ≡ 1 → occurs same b (addrs (r .table)) ≡ 1
-      → same own b ≡ false → length (r .table) ≡ suc n → length dss ≡ 2 * n - 1 → After (λ q. has same b (q .picks) ≡ true) (pings dss r)
-  probed dss n r w m t o l k =
-      let y : Ready n r = record { whole = w; mine = m; there = t; many = w .long ∙ l } in
-      let a = away-most n r y o in
-      pings-reach dss n r (a .0) y o (omega (arith, a .1))
+      pings-reach dss n r pos y o (omega arith)

@@ -18,4 +18,3 @@ pub mod Panel
 pub mod Begun
 pub mod Demand3
 pub mod Collects
-pub mod Probed

@@ -128,7 +128,7 @@ fn salvage(mut host: Host, room: usize, image: &[u8], row: &mut [u8], out: &mut 
     host.at_odds(out)
 }
 
-// The image's bytes, so many, stand at the front of their row. No result is longer than 1818 bytes, so a row of 4096 stands for any longer one.
+// The image's bytes, so many, stand at the front of their row. No result is longer than 1103 bytes, so a row of 4096 stands for any longer one.
 fn salvage_first(host: Host, room: usize, bytes: &[u8], length: usize, out: &mut [u8]) -> Host {
     if length <= bytes.len() {
         let mut row = io::buffer();

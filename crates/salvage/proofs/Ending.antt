@@ -3,7 +3,8 @@
 use mathlib.Core.Path.{_≡_, refl, ap, sym, _∙_}
 use mathlib.Core.Bool.{Bool, true, false, not}
 use mathlib.Core.List.{List, [], _∷_, _++_, map}
-use Prim.Native.Nat.{ℕ, _+_, _*_, min}
+use Prim.Native.Nat.{ℕ, _+_, _*_, _≤_, _<_, min}
+use native.Mathlib.Omega.{arith}
 use lib.Dec.{leb, ltb}
 use lib.ListN.{length, take, drop}
 use borrow.Author.Tests.{leb-true, leb-false, le-ltb, lt-ltb}
@@ -21,11 +22,13 @@ use Rattle.image.specs.Versions.{v2, versions, version}
 use Rattle.image.specs.Views.{readMember, savedAs, writtenOf, rowOf}
 use Rattle.image.specs.declared.Written.{Written}
 use Rattle.image.specs.declared.Written.the-variants as written
-use Rattle.salvage.specs.Salvage.{salvaged, notSalvaged, Salvage, from, places, kept, positionOf, left, headed, salvage, keptOf}
+use Rattle.salvage.specs.Salvage.{Ending, salvaged, notSalvaged, Salvage, from, places, kept, positionOf, ownOf, left, headed, salvageTests, salvage, keptOf}
 use Rattle.salvage.specs.Salvage as S
 use Rattle.salvage.specs.Rule.{words-many}
 use Rattle.salvage.specs.Views.{rowOfWords, Sifts, notDone, endingOf, salvageOf, Salvages}
+use Rattle.salvage.specs.declared.Said.{Said}
 use Rattle.salvage.specs.declared.Sifted.{Sifted}
+use Rattle.salvage.specs.declared.Ends.{Ends}
 use Rattle.salvage.specs.declared.Ends.the-variants as ends
 use Rattle.salvage.specs.declared.Salvaged.{Salvaged}
 

@@ -7,19 +7,20 @@ use Prim.Native.Nat.{ℕ, zero, suc, _+_, _≤_, _<_}
 use native.Mathlib.Omega.{arith}
 use lib.Dec.{ltb, leb}
 use lib.ListN.{length, take, drop, length-drop}
-use lib.Seq.{length-take-le, drop-nil}
+use lib.Seq.{length-take-le, drop-drop, drop-nil}
 use borrow.Author.Tests.{leb-true, le-leb, lt-leb, le-ltb, lt-ltb, not-true, not-false}
 use Rattle.model.specs.Rows.{pick, has}
 use Rattle.laws_list.specs.Places.{placeOf as placeIn, has-place}
 use Rattle.address.specs.Here.{Addr, here}
 use Rattle.numbers.specs.Numbers.{numberIn, numberOf}
-use Rattle.image.specs.Image.{Form, Entry, head, entry}
+use Rattle.image.specs.Image.{Form, Entry, head, entry, addrIn, addressInRule, stateInRule, counted}
 use Rattle.image.specs.Views.{placeOf, entryIn}
 use Rattle.image.specs.declared.Place.{Place}
 use Rattle.salvage.specs.Salvage.{verdict, wordOf, positionOf, ownOf, headed}
 use Rattle.salvage.specs.Views.{noPlace, seenOf}
 use Rattle.salvage.specs.declared.Word.{Word}
 use Rattle.salvage.specs.declared.Word.the-variants as word
+use Rattle.salvage.specs.declared.Seen.{Seen}
 
 -- the head
 module _ (f : Form Addr) (bytes : List ℕ) where

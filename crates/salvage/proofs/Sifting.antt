@@ -1,9 +1,9 @@
 -- The places of an image sifted one after the other.
 -- Assumes nothing.
 use mathlib.Core.Path.{_≡_, refl, ap, sym, _∙_, subst}
-use mathlib.Core.Bool.{true, false}
+use mathlib.Core.Bool.{Bool, true, false}
 use mathlib.Core.List.{List, [], _∷_, _++_, map}
-use Prim.Native.Nat.{ℕ, suc, _+_, _*_, _-_, _≤_, _<_}
+use Prim.Native.Nat.{ℕ, zero, suc, _+_, _*_, _-_, _≤_, _<_}
 use native.Mathlib.Omega.{arith}
 use native.Mathlib.Numerals.{add-one}
 use lib.Dec.{ltb}
@@ -13,6 +13,7 @@ use Rattle.model.specs.Rows.{pick, padTo}
 use Rattle.laws.specs.Pad.{pad-step}
 use Rattle.address.specs.Here.{Addr, here}
 use Rattle.member.specs.declared.Member.{Member}
+use Rattle.member.specs.Views.{nobody}
 use Rattle.image.specs.Image.{Form, Entry, head, entry, addrIn, stateOf}
 use Rattle.image.specs.Views.{placeOf, entryIn, readMember}
 use Rattle.image.specs.declared.Place.{Place}

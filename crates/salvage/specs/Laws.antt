@@ -1,9 +1,9 @@
 -- What is left can be restored; an image that can be restored is left as it is, with every place kept; and salvaged again, a result stays. For any type of address and two forms of its bytes.
 -- Assumes nothing.
-use mathlib.Core.Path.{_≡_, refl, ap, sym, _∙_}
+use mathlib.Core.Path.{_≡_, refl, ap, sym, _∙_, subst}
 use mathlib.Core.Bool.{Bool, true, false, not, _&&_}
 use mathlib.Core.List.{List, [], _∷_, _++_, map}
-use Prim.Native.Nat.{ℕ, zero, suc, _+_, _*_, _-_, _^_, _≤_, _<_}
+use Prim.Native.Nat.{ℕ, zero, suc, _+_, _*_, _-_, _^_, _≤_, _<_, min}
 use native.Mathlib.Omega.{arith}
 use native.Mathlib.Nat.{suc-mul}
 use lib.Dec.{eqb, ltb, leb}
@@ -11,7 +11,8 @@ use lib.ListN.{length, getD, take, drop, replicate, length-append, length-map}
 use lib.Seq.{take-suc, take-all, drop-drop}
 use borrow.Author.Tests.{leb-true, eqb-true, eqb-false, eq-eqb, ltb-true, ltb-false, lt-ltb, not-true}
 use Rattle.model.specs.Rows.{one, pick, every, has, occurs}
-use Rattle.model.specs.Words.{Address, Lawful}
+use Rattle.model.specs.Words.{Address, Lawful, Member}
+use Rattle.model.specs.Members.{addrs}
 use Rattle.model.specs.Sound.{distinct, positioned}
 use Rattle.laws.specs.Bools.{and-split, and-join, every-append}
 use Rattle.laws.specs.Counts.{occurs-append, has-none}

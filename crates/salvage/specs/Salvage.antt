@@ -1,4 +1,4 @@
--- "Salvage of a saved list": which places of an image are kept, what is said of each, and the list that is left. For any type of address and two forms of its bytes.
+-- "Salvage of a saved list": which places of an image are kept, what is said of each, and the list that is left. For any type of address and its bytes.
 -- Assumes nothing.
 use mathlib.Core.Bool.{Bool, not, _&&_}
 use mathlib.Core.List.{List, [], _∷_, _++_, map}

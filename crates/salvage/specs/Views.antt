@@ -1,13 +1,17 @@
 -- The words of the contracts.
 -- Assumes nothing.
 use mathlib.Core.Path.{_≡_}
+use mathlib.Core.Bool.{Bool}
 use mathlib.Core.List.{List, [], map}
 use Prim.Native.Nat.{ℕ, _≤_}
 use lib.ListN.{length, take}
 use lib.Dec.{ltb}
 use Rattle.model.specs.Rows.{pick, padTo}
 use Rattle.address.specs.Here.{Addr, here}
-use Rattle.image.specs.Image.{Form, entry}
+use Rattle.model.specs.Words as words
+use Rattle.member.specs.declared.Member.{Member}
+use Rattle.member.specs.Views.{toMember}
+use Rattle.image.specs.Image.{Form, Entry, entry, addrIn, memberOf}
 use Rattle.image.specs.Versions.{versions}
 use Rattle.image.specs.Views.{placeOf, readMember}
 use Rattle.image.specs.declared.Place.{Place}

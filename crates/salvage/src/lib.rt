@@ -5,6 +5,7 @@ use image::Written;
 use member::Member;
 use model::Refusal;
 ghost use mathlib.Core.Path.{_≡_};
+ghost use mathlib.Core.List.{map};
 ghost use Prim.Native.Nat.{_+_, _≤_, min};
 ghost use lib.ListN.{length, take, drop};
 ghost use Rattle.address.specs.Here.{here};

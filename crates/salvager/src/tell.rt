@@ -18,16 +18,11 @@ fn put_first(out: &mut [u8], at: usize, bytes: &[u8], n: usize) -> usize {
     at
 }
 
-// An address that has no text, as in a script.
-fn put_outside(out: &mut [u8], at: usize, a: Address) -> usize {
-    let word = put_bytes(out, at, b"address");
-    put_marked_address(out, word, b' ', a)
-}
-
-// The text of an address.
+// The text of an address; where it has none, the word of a replayed script for it.
 fn put_address(out: &mut [u8], at: usize, a: Address) -> usize {
     if !address::in_range(a) {
-        return put_outside(out, at, a);
+        let word = put_bytes(out, at, b"address");
+        return put_marked_address(out, word, b' ', a);
     }
     let mut text = [0u8; 48];
     let end = iptext::write(&mut text, 0, a);

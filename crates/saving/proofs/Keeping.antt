@@ -2,9 +2,10 @@
 -- Assumes nothing.
 use mathlib.Core.Path.{_≡_, refl, ap, sym, _∙_}
 use mathlib.Core.Bool.{Bool, true, false, not}
-use mathlib.Core.List.{List, [], _∷_, _++_}
-use Prim.Native.Nat.{ℕ}
-use lib.ListN.{length, drop}
+use mathlib.Core.List.{List, [], _∷_, _++_, map}
+use Prim.Native.Nat.{ℕ, _≤_, _<_}
+use native.Mathlib.Omega.{arith}
+use lib.ListN.{length, take, drop}
 use lib.Dec.{leb, ltb}
 use borrow.Author.Tests.{leb-true, leb-false, le-ltb, lt-ltb}
 use Rattle.model.specs.declared.Refusal.{Refusal}
@@ -14,7 +15,7 @@ use Rattle.address.specs.Here.{Addr, here}
 use Rattle.model.specs.Node as M
 use Rattle.model.specs.Sound.{sound}
 use Rattle.member.specs.declared.Member.{Member}
-use Rattle.member.specs.Views.{viewMembers, Held}
+use Rattle.member.specs.Views.{toMember, viewMembers, Held}
 use Rattle.node.specs.declared.Node.{Node}
 use Rattle.node.specs.Views.{viewNode, storedView}
 use Rattle.node.specs.Rows.{loaded-view}
@@ -25,7 +26,7 @@ use Rattle.image.specs.Versions.{versions}
 use Rattle.image.specs.Views.{savedAs, writtenOf, rowOf}
 use Rattle.image.specs.declared.Written.{Written}
 use Rattle.image.specs.declared.Written.the-variants as written
-use Rattle.saving.specs.Saving.{saved, notSaved, Save, savedList, save}
+use Rattle.saving.specs.Saving.{Ending, saved, notSaved, Save, inOrder, savedList, saveTests, save}
 use Rattle.saving.specs.Views.{rowInOrder, endingOf, saveOf, Saves}
 use Rattle.saving.specs.declared.Saving.{Saving}
 use Rattle.saving.specs.declared.Saving.the-variants as saving

@@ -11,6 +11,7 @@ use Rattle.model.specs.Rows.{padTo}
 use Rattle.laws.specs.Pad.{pad-step, take-pad}
 use Rattle.address.specs.Here.{Addr, here}
 use Rattle.model.specs.Words as words
+use Rattle.model.specs.Members as list
 use Rattle.member.specs.declared.Member.{Member}
 use Rattle.member.specs.declared.Members.{Members}
 use Rattle.member.specs.declared.Standing.{Standing}

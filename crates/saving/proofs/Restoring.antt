@@ -4,15 +4,18 @@ use mathlib.Core.Path.{_≡_, refl, ap, sym, _∙_}
 use mathlib.Core.Bool.{Bool, true, false, not, _&&_}
 use mathlib.Core.List.{List, [], _∷_, map}
 use Prim.Native.Nat.{ℕ}
+use native.Mathlib.Omega.{arith}
 use lib.ListN.{length, take, length-map}
 use borrow.Author.Tests.{not-true, not-false}
+use Rattle.model.specs.declared.Refusal.{Refusal}
 use Rattle.model.specs.declared.Refusal.the-variants as refusal
-use Rattle.model.specs.declared.Reply.the-variants.{Done}
+use Rattle.model.specs.declared.Reply.the-variants.{Done, Refused}
 use Rattle.model.specs.declared.Settings.{Settings}
 use Rattle.model.specs.Rows.{pick, padTo}
 use Rattle.model.specs.Sound.{inRange}
 use Rattle.model.specs.Node as M
 use Rattle.model.specs.Members as list
+use Rattle.model.specs.Words as words
 use Rattle.model.specs.Calls.{Created, created, notCreated, firstOf}
 use Rattle.address.specs.Here.{Addr, here}
 use Rattle.member.specs.declared.Member.{Member}
@@ -33,8 +36,8 @@ use Rattle.image.specs.Views.{readMember, rowsOf, nothing, listOf, loadedOf}
 use Rattle.image.specs.declared.Loaded.{Loaded}
 use Rattle.image.specs.declared.Verdict.{Verdict}
 use Rattle.image.specs.declared.Verdict.the-variants as verdict
-use Rattle.saving.specs.Saving.{restoredNode, restore}
-use Rattle.saving.specs.Views.{nodeOf, notRestored, restoredAs, setUpOf, restoredOf}
+use Rattle.saving.specs.Saving.{restoredNode, restoreTests, restore}
+use Rattle.saving.specs.Views.{membersOf, nodeOf, notRestored, restoredAs, setUpOf, restoredOf}
 use Rattle.saving.specs.declared.Restored.{Restored}
 
 -- the settings' test

@@ -11,7 +11,7 @@ use Rattle.model.specs.declared.Reply.the-variants.{Done, Refused}
 use Rattle.model.specs.Rows.{pick, padTo}
 use Rattle.model.specs.Lamps.{lampsOf}
 use Rattle.model.specs.Sound.{inRange}
-use Rattle.address.specs.Here.{here}
+use Rattle.address.specs.Here.{Addr, here}
 use Rattle.member.specs.declared.Member.{Member}
 use Rattle.member.specs.declared.Members.{Members}
 use Rattle.member.specs.Views.{toMember, fromMember, nobody, viewMembers}

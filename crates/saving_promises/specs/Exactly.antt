@@ -11,8 +11,8 @@ use Rattle.address.specs.Here.{Addr, here}
 use Rattle.node.specs.declared.Node.{Node}
 use Rattle.node.specs.Views.{storedView, createdOf}
 use Rattle.image.specs.Versions.{versions}
-use Rattle.saving.specs.Saving.{Save, notSaved, saveTests, save, restoreTests, restore}
-use Rattle.saving.specs.Views.{endingOf, Saves, restoredOf}
+use Rattle.saving.specs.Saving.{Save, saved, notSaved, saveTests, save, restoreTests, restore}
+use Rattle.saving.specs.Views.{endingOf, saveOf, Saves, restoredOf}
 use Rattle.saving.specs.declared.Saving.{Saving}
 use Rattle.saving.specs.declared.Saving.the-variants as saving
 use Rattle.saving.specs.declared.Restored.{Restored}

@@ -1,39 +1,40 @@
 -- RESTART WITH THE LIST WE HAD: one list has one image; what was saved is restored; what was restored is saved as the same bytes, and is sound. Of the calls.
 -- Assumes nothing.
 use mathlib.Core.Path.{_≡_, refl, ap, sym, _∙_, subst}
-use mathlib.Core.Bool.{Bool, true, false, not, _&&_}
+use mathlib.Core.Bool.{Bool, true, false, not}
 use mathlib.Core.List.{List, [], _∷_, _++_}
 use Prim.Native.Nat.{ℕ, _≤_}
 use native.Mathlib.Omega.{arith}
-use lib.Dec.{eqb, ltb, leb}
+use lib.Dec.{ltb}
 use lib.ListN.{length, take, drop}
 use lib.Seq.{take-at, drop-at}
-use borrow.Author.Tests.{le-ltb, eqb-true, ne-eqb}
+use borrow.Author.Tests.{le-ltb, not-false}
+use Rattle.model.specs.declared.State.{State}
+use Rattle.model.specs.declared.Reply.{Reply}
 use Rattle.model.specs.declared.Reply.the-variants.{Done, Refused}
 use Rattle.model.specs.declared.Refusal.{Refusal}
 use Rattle.model.specs.declared.Refusal.the-variants.{Unsound, NoRoom}
 use Rattle.model.specs.declared.Settings.{Settings}
+use Rattle.model.specs.Members as list
 use Rattle.model.specs.Node as M
 use Rattle.model.specs.Sound.{inRange, sound}
-use Rattle.model.specs.Calls.{Created, created, firstOf}
-use Rattle.laws.specs.Bools.{and-split}
+use Rattle.model.specs.Calls.{Created, created, notCreated, firstOf}
 use Rattle.laws_node.specs.Good.{Good, FullRows, good-sound, sound-good, loaded-stored}
 use Rattle.address.specs.Here.{Addr, here, here-lawful}
 use Rattle.node.specs.declared.Node.{Node}
-use Rattle.node.specs.Views.{storedView, createdOf}
+use Rattle.node.specs.Views.{storedView, unstored, plainAnswer, createdOf}
 use Rattle.promises.specs.Runs.{stored-unstored}
 use Rattle.promises.specs.Made.{Accepted}
 use Rattle.promises.specs.Begun.{restore-accepted}
 use Rattle.wait.specs.Views.{freshWait}
 use Rattle.numbers.specs.Numbers.{Bytes}
-use Rattle.numbers.specs.Codec.{number}
-use Rattle.image.specs.Image.{opening, Saved, marked}
-use Rattle.image.specs.Forms.{wideOf, imageOf, saidBy}
+use Rattle.image.specs.Image.{Saved}
+use Rattle.image.specs.Forms.{imageOf, saidBy}
 use Rattle.image.specs.Round.{Numbered, Savable}
-use Rattle.image.specs.Chosen.{image-opens, tells-image, image-tells}
-use Rattle.image.specs.Versions.{v1, v2, versions, version, sure}
-use Rattle.saving.specs.Saving.{Save, saved, notSaved, savedList, restoredNode, save, restore}
-use Rattle.saving.specs.Views.{endingOf, Saves, restoredAs, restoredOf}
+use Rattle.image.specs.Chosen.{tells-image, image-tells}
+use Rattle.image.specs.Versions.{versions, sure}
+use Rattle.saving.specs.Saving.{Save, saved, notSaved, inOrder, savedList, restoredNode, save, restore}
+use Rattle.saving.specs.Views.{endingOf, saveOf, Saves, restoredAs, restoredOf}
 use Rattle.laws_saving.specs.Laws.{savable, listed-same, state-same, number-same, order-same, accepted, restores, restored-good, saved-again}
 use Rattle.laws_saving.specs.Laws.{Accepted as ListAccepted}
 use Rattle.saving.specs.declared.Saving.{Saving}
@@ -100,30 +101,6 @@ module _ (node : Node) (whole : Whole node) (is-sound : sound here (storedView n
   image-restores settings c =
       restores here here-lawful versions (imageOf versions (savedList here (held node))) settings (savedList here (held node))
       (tells-image here versions sure (savedList here (held node)) can-be-saved) c
-
--- no bytes open with both versions
-one-version : (bytes : List ℕ) → marked v2 bytes ≡ true → marked v1 bytes ≡ false
-unfolding marked
-one-version bytes e =
-    let p = and-split (leb 5 (length bytes)) (eqb (number 5 .get bytes) (opening v2)) e in
-    let n : number 5 .get bytes ≡ opening v2 = eqb-true (number 5 .get bytes) (opening v2) (p .1) in
-    let d : eqb (number 5 .get bytes) (opening v1) ≡ false = ne-eqb (number 5 .get bytes) (opening v1) (λ q. absurd (omega (arith, sym q ∙ n))) in
-    ap (λ (u : Bool). leb 5 (length bytes) && u) d ∙ ap (λ (u : Bool). u && false) (p .0)
-
--- "A list with an IPv6 address, own included, is saved as version 2 .. All others are version 1. A version 1 reader answers 14": its test is whether they open with version 1
-pub saved-version : (node : Node) (row : List ℕ) (r : Saving) (row′ : List ℕ) → Saves node row r row′ → Whole node → (n : ℕ) → r ≡ saving.Whole n
-    → (marked v2 (take n row′) ≡ wideOf versions (savedList here (held node))) × (marked v1 (take n row′) ≡ not (wideOf versions (savedList here (held node))))
-saved-version node row r row′ met whole n e =
-    let w = wrote node row r row′ met n e in
-    let k = can-be-saved node whole (w .is-sound) in
-    let o : marked v2 (imageOf versions (savedList here (held node))) ≡ wideOf versions (savedList here (held node)) = image-opens here versions sure (savedList here (held node)) k in
-    let t : marked v1 (imageOf versions (savedList here (held node))) ≡ not (marked v2 (imageOf versions (savedList here (held node)))) =
-    by (imageOf versions (savedList here (held node))) (marked v2 (imageOf versions (savedList here (held node)))) refl (tells-image here versions sure (savedList here (held node)) k .says .is-marked) in
-    (ap (marked v2) (w .bytes) ∙ o, ap (marked v1) (w .bytes) ∙ t ∙ ap not o)
-  where
-    by : (bytes : List ℕ) (u : Bool) → marked v2 bytes ≡ u → marked (version u) bytes ≡ true → marked v1 bytes ≡ not u
-    by bytes true q t = one-version bytes q
-    by bytes false q t = t
 
 -- "One list has one image": two nodes whose calls wrote the same bytes have the same own address, order, states, numbers and position
 pub one-image : (node node₂ : Node) (row row₂ : List ℕ) (r r₂ : Saving) (row′ row₂′ : List ℕ) → Saves node row r row′ → Saves node₂ row₂ r₂ row₂′ → Whole node → Whole node₂

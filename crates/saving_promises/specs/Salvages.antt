@@ -3,22 +3,24 @@
 -- Assumes nothing.
 use mathlib.Core.Path.{_≡_, refl, ap, sym, _∙_, subst}
 use mathlib.Core.Logic.{_↔_}
-use mathlib.Core.Bool.{Bool, true, false, not}
+use mathlib.Core.Bool.{Bool, true, false, not, _&&_}
 use mathlib.Core.List.{List, [], _∷_, _++_, map}
-use Prim.Native.Nat.{ℕ, zero, suc, _-_, _≤_, _<_, min}
+use Prim.Native.Nat.{ℕ, zero, suc, _-_, _^_, _≤_, _<_, min}
 use native.Mathlib.Omega.{arith}
-use lib.Dec.{ltb}
+use lib.Dec.{ltb, leb, lit<}
 use lib.ListN.{length, getD, take, drop, replicate, length-replicate}
 use lib.Seq.{take-at, drop-at}
-use borrow.Author.Tests.{le-ltb}
+use borrow.Author.Tests.{le-ltb, not-false}
 use Rattle.model.specs.declared.Refusal.{Refusal}
 use Rattle.model.specs.declared.Refusal.the-variants.{NoRoom, WrongMark, OutOfRule}
 use Rattle.model.specs.declared.Reply.the-variants.{Done}
 use Rattle.model.specs.declared.Settings.{Settings}
+use Rattle.model.specs.Rows.{padTo}
 use Rattle.model.specs.Answers.{numberOf}
 use Rattle.model.specs.Node as M
 use Rattle.model.specs.Sound.{inRange}
 use Rattle.model.specs.Calls.{Created, created, firstOf}
+use Rattle.laws.specs.Bools.{and-split}
 use Rattle.address.specs.Here.{Addr, here, here-lawful}
 use Rattle.node.specs.Views.{createdOf}
 use Rattle.numbers.specs.Numbers.{Bytes}
@@ -34,7 +36,7 @@ use Rattle.salvage.specs.Salvage.{Salvage, salvaged, notSalvaged, wordAt, place
 use Rattle.salvage.specs.Salvage as S
 use Rattle.salvage.specs.Rule.{Rule, exactly, words-many, word-of}
 use Rattle.salvage.specs.Laws.{words-same, headed-there, result-is, result-tells, result-opens, result-same}
-use Rattle.salvage.specs.Views.{said, rowOfWords, notDone, endingOf, Salvages}
+use Rattle.salvage.specs.Views.{said, rowOfWords, notDone, endingOf, salvageOf, Salvages}
 use Rattle.salvage.specs.declared.Word.{Word}
 use Rattle.salvage.specs.declared.Word.the-variants as word
 use Rattle.salvage.specs.declared.Said.{Said}
@@ -225,7 +227,7 @@ module _ (bytes : List ℕ) (s : Saved Addr) (t : Tells here versions bytes s) (
 pub accepted-stays : (bytes : List ℕ) (settings : Settings) (tick : ℕ) (s : Restored) → s ≡ restoredOf bytes settings tick → s .answer .reply ≡ Done 0 → Bytes bytes
     → (row : List ℕ) (r : Salvaged) (row′ : List ℕ) → Salvages bytes row r row′ → length bytes ≤ length row → Unchanged bytes r row′
 accepted-stays bytes settings tick s told kept b row r row′ met l =
-    let t = facts bytes settings tick s told kept .tells in
+    let t = facts bytes settings tick s told kept .says in
     stays-same bytes (saidBy versions bytes) t (result-same here here-lawful versions bytes sure b (saidBy versions bytes) t) row r row′ met l
 
 -- salvage of a result changes nothing

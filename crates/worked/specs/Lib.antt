@@ -9,4 +9,3 @@ pub mod Wrong
 pub mod Differs
 pub mod Clock
 pub mod Collected
-pub mod Texts

@@ -2,6 +2,7 @@
 -- Assumes nothing.
 use denote.Ref.{now}
 use Rattle.image.proofs.Loading.{counted-by}
+use native.Mathlib.Omega.{arith}
 use borrow.Author.Needs.{needs}
 use Rattle.image.proofs.count_in.Statement.{statement}
 use Rattle.image.proofs.count_in.Tie as tie

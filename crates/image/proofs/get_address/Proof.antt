@@ -2,6 +2,8 @@
 -- Assumes nothing.
 use denote.Ref.{now}
 use Rattle.image.proofs.Loading.{got-wide, got-narrow, wide-long, narrow-long}
+use native.Mathlib.Omega.{arith}
+use borrow.Author.Needs.{needs}
 use Rattle.image.proofs.get_address.Statement.{statement}
 use Rattle.image.proofs.get_address.Tie as tie
 

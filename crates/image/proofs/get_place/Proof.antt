@@ -2,6 +2,7 @@
 -- Assumes nothing.
 use denote.Ref.{now}
 use Rattle.image.proofs.Loading.{place-read}
+use native.Mathlib.Omega.{arith}
 use borrow.Author.Needs.{needs}
 use Rattle.image.proofs.get_place.Statement.{statement}
 use Rattle.image.proofs.get_place.Tie as tie

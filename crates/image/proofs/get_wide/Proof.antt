@@ -2,6 +2,7 @@
 -- Assumes nothing.
 use denote.Ref.{now}
 use Rattle.image.proofs.Loading.{wide-read}
+use native.Mathlib.Omega.{arith}
 use borrow.Author.Needs.{needs}
 use Rattle.image.proofs.get_wide.Statement.{statement}
 use Rattle.image.proofs.get_wide.Tie as tie

@@ -1,6 +1,7 @@
 -- `image::in_rule` meets its contract: the tests, one after the other.
 -- Assumes nothing.
 use Rattle.image.proofs.Judging.{rule-told}
+use native.Mathlib.Omega.{arith}
 use borrow.Author.Needs.{needs}
 use Rattle.image.proofs.in_rule.Statement.{statement}
 use Rattle.image.proofs.in_rule.Tie as tie

@@ -1,5 +1,6 @@
 -- `image::in_version` meets its contract.
 -- Assumes nothing.
+use native.Mathlib.Omega.{arith}
 use borrow.Author.Needs.{needs}
 use Rattle.image.proofs.in_version.Statement.{statement}
 use Rattle.image.proofs.in_version.Tie as tie

@@ -5,6 +5,7 @@ use mathlib.Core.Path.{ap, _∙_}
 use mathlib.Core.Bool.{Bool}
 use Rattle.image.specs.Image.{marked}
 use Rattle.image.specs.Versions.{version}
+use native.Mathlib.Omega.{arith}
 use borrow.Author.Needs.{needs}
 use Rattle.image.proofs.is_marked.Statement.{statement}
 use Rattle.image.proofs.is_marked.Tie as tie

@@ -1,5 +1,6 @@
 -- `image::is_wide` meets its contract.
 -- Assumes nothing.
+use native.Mathlib.Omega.{arith}
 use borrow.Author.Needs.{needs}
 use Rattle.image.proofs.is_wide.Statement.{statement}
 use Rattle.image.proofs.is_wide.Tie as tie

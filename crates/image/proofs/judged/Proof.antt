@@ -1,6 +1,7 @@
 -- `image::judged` meets its contract: in rule, or not.
 -- Assumes nothing.
 use Rattle.image.proofs.Judging.{judged-out, judged-in}
+use native.Mathlib.Omega.{arith}
 use borrow.Author.Needs.{needs}
 use Rattle.image.proofs.judged.Statement.{statement}
 use Rattle.image.proofs.judged.Tie as tie

@@ -1,9 +1,10 @@
 -- `image::load` meets its contract: 14 and 15, then the list.
 -- Assumes nothing.
-use mathlib.Core.Path.{sym, _∙_}
+use mathlib.Core.Path.{_≡_, sym, _∙_}
 use lib.Dec.{lit<}
 use denote.Ref.{now}
 use Rattle.image.proofs.Judging.{load-refused}
+use native.Mathlib.Omega.{arith}
 use borrow.Author.Needs.{needs}
 use Rattle.image.proofs.load.Statement.{statement}
 use Rattle.image.proofs.load.Tie as tie

@@ -1,6 +1,8 @@
 -- `image::mark_of` meets its contract.
 -- Assumes nothing.
 use Rattle.image.proofs.Loading.{opening-wide, opening-narrow}
+use native.Mathlib.Omega.{arith}
+use borrow.Author.Needs.{needs}
 use Rattle.image.proofs.mark_of.Statement.{statement}
 use Rattle.image.proofs.mark_of.Tie as tie
 

@@ -2,7 +2,7 @@
 -- Assumes nothing.
 use mathlib.Core.Path.{_≡_}
 use mathlib.Core.Bool.{_||_}
-use Prim.Native.Nat.{_-_, _≤_}
+use Prim.Native.Nat.{ℕ, _-_, _≤_}
 use Rattle.image.specs.Forms.{some}
 use Rattle.image.specs.Versions.{isV6}
 use Rattle.image.specs.Views.{addressesOf}

@@ -4,6 +4,7 @@ use denote.Ref.{now}
 use mathlib.Core.Path.{sym, _∙_}
 use borrow.Author.Tests.{not-true, not-false}
 use Rattle.image.proofs.Loading.{opening-mark, opening-head, opening-size, opening-good}
+use native.Mathlib.Omega.{arith}
 use borrow.Author.Needs.{needs}
 use Rattle.image.proofs.opening.Statement.{statement}
 use Rattle.image.proofs.opening.Tie as tie

@@ -2,6 +2,7 @@
 -- Assumes nothing.
 use denote.Ref.{now}
 use Rattle.image.proofs.Loading.{unmarked-short, marked-by}
+use native.Mathlib.Omega.{arith}
 use borrow.Author.Needs.{needs}
 use Rattle.image.proofs.opens_with.Statement.{statement}
 use Rattle.image.proofs.opens_with.Tie as tie

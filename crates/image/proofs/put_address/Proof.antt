@@ -1,6 +1,7 @@
 -- `image::put_address` meets its contract: by the version.
 -- Assumes nothing.
 use Rattle.image.proofs.Laying.{wide-room, narrow-room, wide-laid, narrow-laid}
+use native.Mathlib.Omega.{arith}
 use borrow.Author.Needs.{needs}
 use Rattle.image.proofs.put_address.Statement.{statement}
 use Rattle.image.proofs.put_address.Tie as tie

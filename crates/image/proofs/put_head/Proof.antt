@@ -1,6 +1,7 @@
 -- `image::put_head` meets its contract: mark with version, own, count.
 -- Assumes nothing.
 use Rattle.image.proofs.Laying.{mark-room, own-room, count-room, head-laid}
+use native.Mathlib.Omega.{arith}
 use borrow.Author.Needs.{needs}
 use Rattle.image.proofs.put_head.Statement.{statement}
 use Rattle.image.proofs.put_head.Tie as tie

@@ -2,6 +2,7 @@
 -- Assumes nothing.
 use Rattle.member.specs.Views.{toMember}
 use Rattle.image.proofs.Laying.{addr-room, state-room, number-room, member-laid}
+use native.Mathlib.Omega.{arith}
 use borrow.Author.Needs.{needs}
 use Rattle.image.proofs.put_member.Statement.{statement}
 use Rattle.image.proofs.put_member.Tie as tie

@@ -3,7 +3,7 @@
 use mathlib.Core.Path.{_≡_, ap}
 use mathlib.Core.List.{map}
 use Prim.Native.Nat.{ℕ, _-_, _≤_}
-use lib.ListN.{take}
+use lib.ListN.{length, take}
 use Rattle.member.specs.Views.{toMember}
 use Rattle.varint.specs.Laid.{Laid, laid-as}
 use Rattle.image.specs.Views.{membersBytes}

@@ -1,6 +1,7 @@
 -- `image::put_narrow` meets its contract: address, port.
 -- Assumes nothing.
 use Rattle.image.proofs.Laying.{low-room, port-room, narrow-done}
+use native.Mathlib.Omega.{arith}
 use borrow.Author.Needs.{needs}
 use Rattle.image.proofs.put_narrow.Statement.{statement}
 use Rattle.image.proofs.put_narrow.Tie as tie

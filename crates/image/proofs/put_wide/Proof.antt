@@ -1,6 +1,7 @@
 -- `image::put_wide` meets its contract: family, two numbers, port.
 -- Assumes nothing.
 use Rattle.image.proofs.Laying.{family-room, high-room, low-room₂, port-room₂, wide-done}
+use native.Mathlib.Omega.{arith}
 use borrow.Author.Needs.{needs}
 use Rattle.image.proofs.put_wide.Statement.{statement}
 use Rattle.image.proofs.put_wide.Tie as tie

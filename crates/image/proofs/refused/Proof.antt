@@ -1,9 +1,14 @@
 -- `image::refused` meets its contract.
 -- Assumes nothing.
 use lib.ListN.{replicate}
+use native.Mathlib.Omega.{arith}
 use borrow.Author.Needs.{needs}
 use Rattle.image.proofs.refused.Statement.{statement}
 use Rattle.image.proofs.refused.Tie as tie
+use Rattle.image.proofs.refused.Reads as reads
+use Rattle.image.proofs.refused.Lts as lts
+use Rattle.address.proofs.blank.Reads as blank-reads
+use Rattle.member.proofs.Member.none.Reads as none-reads
 
 returns : tie.Need-returns
 returns c = (

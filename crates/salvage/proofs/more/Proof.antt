@@ -1,6 +1,6 @@
 -- `salvage::more` meets its contract.
 -- Assumes nothing.
-use mathlib.Core.Path.{ap, sym}
+use mathlib.Core.Path.{_≡_, ap, sym}
 use native.Mathlib.Omega.{arith}
 use borrow.Author.Needs.{needs}
 use Rattle.salvage.specs.Views.{moreOf}

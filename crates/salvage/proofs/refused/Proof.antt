@@ -1,5 +1,6 @@
 -- `salvage::refused` meets its contract.
 -- Assumes nothing.
+use mathlib.Core.List.{[]}
 use lib.ListN.{replicate}
 use borrow.Author.Needs.{needs}
 use Rattle.salvage.specs.Views.{rowOfWords}

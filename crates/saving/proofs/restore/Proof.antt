@@ -1,6 +1,6 @@
 -- `saving::restore` meets its contract: by the verdict on the image.
 -- Assumes nothing.
-use mathlib.Core.Path.{_∙_}
+use mathlib.Core.Path.{_≡_, _∙_}
 use denote.Ref.{now}
 use Rattle.saving.proofs.Restoring.{restore-ends}
 use borrow.Author.Needs.{needs}

@@ -1,6 +1,6 @@
 -- `saving::set_up` meets its contract: 1, or the node.
 -- Assumes nothing.
-use mathlib.Core.Path.{_∙_}
+use mathlib.Core.Path.{_≡_, _∙_}
 use Rattle.saving.proofs.Restoring.{set-up-refused, set-up-done}
 use borrow.Author.Needs.{needs}
 use Rattle.saving.proofs.set_up.Statement.{statement}

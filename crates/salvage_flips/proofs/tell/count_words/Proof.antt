@@ -1,6 +1,8 @@
 -- `tell::count_words` is safe and ends.
 -- Assumes nothing.
+use mathlib.Core.Path.{_≡_}
 use Prim.Native.Nat.{_-_, _≤_}
+use lib.ListN.{length}
 use borrow.Author.Needs.{needs}
 use Rattle.salvage_flips.proofs.tell.count_words.Statement.{statement}
 use Rattle.salvage_flips.proofs.tell.count_words.Tie as tie

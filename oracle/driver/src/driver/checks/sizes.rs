@@ -40,7 +40,7 @@ pub fn check(count: u64) -> bool {
         "sizes: {} compared with encoded_len ({edges} at the edges, {count} random), from {} to {}, {} differences",
         tally.compared, tally.least, tally.most, tally.differences
     );
-    tally.differences == 0 && tally.least == 18 && tally.most == 111
+    tally.differences == 0 && tally.least == 24 && tally.most == 59
 }
 
 struct Tally {
@@ -107,7 +107,7 @@ fn digits(number: u64) -> usize {
     (number.max(1).ilog10() + 1) as usize
 }
 
-/// Of each family the shortest and the longest; of IPv4 both sides of every change of length in the ip's bytes and the port.
+/// The shortest, the longest, and both sides of every change of length in the ip's bytes and the port.
 fn edge_addresses() -> Vec<Address> {
     let mut found = vec![0, ADDRESS_LIMIT - 1];
     for port in [9, 10, 99, 100, 999, 1000, 9999, 10000, 65535] {
@@ -118,9 +118,7 @@ fn edge_addresses() -> Vec<Address> {
             found.push(byte << (16 + 8 * place));
         }
     }
-    let sixes = [(0, 0), (u128::MAX, 65535), (0xffff_0000_0000, 0), (0xffff_ffff_ffff, 65535), (1, 9)];
-    let four = found.into_iter().map(Address::four);
-    four.chain(sixes.map(|(bits, port)| Address::six(bits, port))).collect()
+    found.into_iter().map(Address::four).collect()
 }
 
 /// Both sides of every change of a varint's length.
