@@ -12,10 +12,10 @@ use Rattle.model.specs.declared.Cause.{Cause}
 use Rattle.model.specs.declared.Fate.{Fate}
 use Rattle.model.specs.declared.Fate.the-variants.{Leaves, Stays, Absent}
 use Rattle.model.specs.Answers.{Answer, done, refused, andThen}
-use Rattle.model.specs.Words.{Address, Event, Nothing, Joined, Recovered, Suspected, Deceased, Gossip, Action, Ping, PingReq, Ack, WaitState, SendingPing, WaitingForPingAck, SendingPingReq, WaitingForPingReqAck, Declaring, Wait}
+use Rattle.model.specs.Words.{Address, Event, Nothing, Joined, Recovered, Suspected, Deceased, Gossip, Action, Ping, PingReq, Ack, WaitState, SendingPing, WaitingForPingAck, SendingPingReq, WaitingForPingReqAck, Declaring, Wait, Departed}
 use Rattle.model.specs.Members as list
 use Rattle.model.specs.Collect.{collects}
-use Rattle.model.specs.Node.{Node, Out, Effect, Stored, loaded, withMembers, quiet, andMore, pushed, emit, lists, change, leave}
+use Rattle.model.specs.Node.{Node, Out, Effect, Stored, loaded, withMembers, withLists, quiet, andMore, pushed, emit, lists, change, leave}
 use Rattle.model.specs.Handler as handler
 use Rattle.model.specs.Detector as D
 use Rattle.model.specs.Calls as calls
@@ -87,13 +87,13 @@ module _ {A : Type 0} (address : Address A) where
   unfolding quiet
   quiet-takes s s′ ds = gives {b = record { node = s′; said = []; collected = 0 }} refl
 
-  tell-takes : (w : handler.News A) (s : Node A) (m : list.Members A) (ds : List ℕ) → Goes w → Takes s (handler.tell address w (withMembers s m) ds)
-  tell-takes handler.Silent s m ds h = quiet-takes s (withMembers s m) ds
-  tell-takes (handler.Emits k e) s m ds h = emit-takes k e s (withMembers s m) ds h refl
+  tell-takes : (w : handler.News A) (s : Node A) (m : list.Members A) (gone : List (Departed A)) (ds : List ℕ) → Goes w → Takes s (handler.tell address w (withLists s m gone) ds)
+  tell-takes handler.Silent s m gone ds h = quiet-takes s (withLists s m gone) ds
+  tell-takes (handler.Emits k e) s m gone ds h = emit-takes k e s (withLists s m gone) ds h refl
 
   act-takes : (v : handler.Verdict A) (s : Node A) (ds : List ℕ) → Takes s (handler.act address v s ds)
   unfolding handler.act
-  act-takes v s ds = after-then (after-any (handler.listAfter address v (s .members) ds)) (λ m rest _. tell-takes (handler.newsOf address v (s .own)) s m rest (news-goes v (s .own)))
+  act-takes v s ds = after-then (after-any (handler.listAfter address v (s .members) ds)) (λ m rest _. tell-takes (handler.newsOf address v (s .own)) s m _ rest (news-goes v (s .own)))
 
   item-takes : (e : Event A) (s : Node A) (ds : List ℕ) → Takes s (handler.item address e s ds)
   unfolding handler.item

@@ -1,5 +1,6 @@
 // The gossip records of a message and its sender, one after the other, and what they report.
 use address::Address;
+use departed::DepartedRow;
 use disseminate::Disseminator;
 use disseminate::Found;
 use disseminate::collect;
@@ -27,10 +28,11 @@ ghost use Rattle.types.specs.Views.{toEvent, toOptional, noGossip};
 ghost use Rattle.heap.specs.Views.{heapView, Packed};
 ghost use Rattle.member.specs.Views.{viewMembers, Held};
 ghost use Rattle.disseminate.specs.Views.{fromFound};
+ghost use Rattle.departed.specs.Views as gone;
 ghost use Rattle.node.specs.Views.{viewNode};
 ghost use Rattle.node.specs.Rows.{Ready};
 ghost use Rattle.rules.specs.Views.{fromVerdict, toNews};
-ghost use Rattle.message.specs.Views.{recordsOf, Heeded, senderRule, verdictAt, deathFor, clearedFor, findsFull, RoomFor, toldTo, noted, fullFor, refusedHeard, heardOf};
+ghost use Rattle.message.specs.Views.{recordsOf, Heeded, senderRule, verdictAt, deathsOf, deathFor, clearedFor, findsFull, RoomFor, toldTo, noted, fullFor, refusedHeard, heardOf};
 
 // What a message brings: its records, and the sender if it is to come in.
 pub struct Lent {
@@ -66,31 +68,39 @@ pub fn no_events() -> [Gossip; Heard::EVENTS]
     [nothing; Heard::EVENTS]
 }
 
-// D of the address that joined. No other event is judged by it, so the heap is read for this one alone.
-fn death_of(deceased: Heap, event: Event) -> Found
-    requires { ⌜ Packed deceased ⌝ }
-    ensures { λ r. ⌜ r ≡ fromFound (deathFor (toEvent event) (heapView deceased)) ⌝ }
+// D of the address that joined. No other event is judged by it, so row and heap are read for this one alone.
+fn death_of(on: bool, departed: DepartedRow, deceased: Heap, event: Event) -> Found
+    requires { ⌜ gone.Packed departed × Packed deceased ⌝ }
+    ensures { λ r. ⌜ r ≡ fromFound (deathFor (toEvent event) (deathsOf on departed deceased)) ⌝ }
 {
     match event {
         Event::Joined {
             from: _,
             subject,
             number: _,
-        } => disseminate::is_deceased(deceased, subject),
+        } => departed::death_of(on, departed, deceased, subject),
         _ => Found::Missing,
     }
 }
 
 // The verdict whose turn it is: on the records in their order, and behind them on the sender.
-fn verdict_at(members: Members, own: Address, deceased: Heap, lent: Lent, i: usize) -> Verdict
-    requires { ⌜ Held members × Packed deceased × Heeded (lent .rows) (lent .given) ⌝ }
-    ensures { λ r. ⌜ r ≡ fromVerdict (verdictAt own (viewMembers members .table) (heapView deceased) (recordsOf (lent .rows) (lent .given)) (toOptional (lent .sender)) i) ⌝ }
+fn verdict_at(
+    members: Members,
+    own: Address,
+    on: bool,
+    departed: DepartedRow,
+    deceased: Heap,
+    lent: Lent,
+    i: usize,
+) -> Verdict
+    requires { ⌜ Held members × gone.Packed departed × Packed deceased × Heeded (lent .rows) (lent .given) ⌝ }
+    ensures { λ r. ⌜ r ≡ fromVerdict (verdictAt own (viewMembers members .table) (deathsOf on departed deceased) (recordsOf (lent .rows) (lent .given)) (toOptional (lent .sender)) i) ⌝ }
 {
     if i < lent.given {
         let rows = lent.rows;
         let g = rows[i];
         let event = g.event;
-        return rules::judge(members, own, death_of(deceased, event), event);
+        return rules::judge(members, own, death_of(on, departed, deceased, event), event);
     }
     let sender = lent.sender;
     match sender {
@@ -99,7 +109,7 @@ fn verdict_at(members: Members, own: Address, deceased: Heap, lent: Lent, i: usi
             if members.lists(a) {
                 return Verdict::Skip;
             }
-            let dead = disseminate::is_deceased(deceased, a);
+            let dead = departed::death_of(on, departed, deceased, a);
             rules::judge_sender(members, dead, a)
         },
     }
@@ -225,13 +235,22 @@ pub fn handle_gossip(node: Node, lent: Lent, draws: &[u64]) -> Heard
     ensures { λ r. ⌜ r ≡ heardOf node (now (draws .entry)) (handler.stopsAt here (recordsOf (lent .rows) (lent .given)) (viewNode node) (now (draws .entry))) (M.andMore (handler.gossip here (recordsOf (lent .rows) (lent .given)) (viewNode node) (now (draws .entry))) (senderRule (toOptional (lent .sender)))) ⌝ }
 {
     let mut members = node.members;
+    let mut departed = node.departed;
     let mut alive = node.disseminator.alive;
     let mut deceased = node.disseminator.deceased;
     let mut report = no_report();
     let mut used = 0;
     let mut i = 0;
     while i <= lent.given {
-        let verdict = verdict_at(members, node.own, deceased, lent, i);
+        let verdict = verdict_at(
+            members,
+            node.own,
+            node.settings.remember,
+            departed,
+            deceased,
+            lent,
+            i,
+        );
         let kept = rules::list_after(members, node.own, verdict, draws, used);
         let drew = kept.drew;
         match drew {
@@ -245,6 +264,7 @@ pub fn handle_gossip(node: Node, lent: Lent, draws: &[u64]) -> Heard
         if finds_full(news, alive.len - old, deceased.len) {
             return refused(node, full_heap(news), cause_at(i, lent.given));
         }
+        departed = rules::row_after(departed, members, verdict);
         members = kept.members;
         alive = tell(clear(alive, old, news), Kind::Alive, news);
         deceased = tell(deceased, Kind::Deceased, news);
@@ -262,6 +282,7 @@ pub fn handle_gossip(node: Node, lent: Lent, draws: &[u64]) -> Heard
             members,
             disseminator: Disseminator { alive, deceased },
             timers,
+            departed,
         },
         events,
         reported: report.count,

@@ -148,6 +148,8 @@ fn refused_creations_are_outside() {
         "new 10 10 10 10 1 3 6 58 1 0 0",
         "new 10 10 10 10 1 3 6 1374 1 0 0",
         "new 10 10 10 10 1 3 6 1169 1 0 0 collect",
+        "new 10 10 10 10 1 3 6 1169 1 0 0 remember",
+        "new 10 10 10 10 1 3 6 1169 1 0 0 collect remember",
     ] {
         let all = answers(&format!("{creation}\nadd 2 0 | 0"), false);
         assert_eq!(all, "? outside\n? outside\n", "{creation}");
