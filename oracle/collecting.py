@@ -3,7 +3,7 @@
 
 usage: collecting.py answers <SCRIPT      the answers and states that the papers ask for
        collecting.py script SEED CALLS    a script of so many calls: few peers that flap, on small and on full heaps
-       collecting.py stored               the script of the crate replay_collected: full heaps that are freed or not, then 300 calls
+       collecting.py stored               oracle/stored/collected.script: full heaps that are freed or not, then 300 calls
 
 Written from the papers alone. Addresses are IPv4, and scripts hold only well-formed lines whose tests 3 to 5 pass.
 """

@@ -3,7 +3,7 @@
 
 usage: oracle/images.py script | answers
 
-The script goes to crates/replay_saved/stdin, the answers to crates/replay_saved/stdout. The published Rust has no saved lists, so
+They stand in oracle/stored/saved.script and saved.answers. The published Rust has no saved lists, so
 this is their judge: the layout is packed by hand, and each refusal is asked for in the order of the request."""
 import sys
 
