@@ -1,16 +1,17 @@
 #!/usr/bin/env python3
-"""A second reading of the papers, for scripts that the published Rust cannot judge: those with `collect`.
+"""A second reading of the papers, for scripts that the published Rust cannot judge: those with `collect` or `remember`.
 
 usage: collecting.py answers <SCRIPT      the answers and states that the papers ask for
        collecting.py script SEED CALLS    a script of so many calls: few peers that flap, on small and on full heaps
        collecting.py stored               oracle/stored/collected.script: full heaps that are freed or not, then 300 calls
+       collecting.py departed             oracle/stored/departed.script: removals, a full row, D from it, then 150 calls
 
 Written from the papers alone. Addresses are IPv4, and scripts hold only well-formed lines whose tests 3 to 5 pass.
 """
 import random
 import sys
 
-HEAP, LIST, TIMERS, LAST, ROUND = 128, 64, 16, 2**64 - 1, 2**32
+HEAP, LIST, TIMERS, ROW, LAST, ROUND = 128, 64, 16, 128, 2**64 - 1, 2**32
 
 
 class Refused(Exception):
@@ -81,7 +82,7 @@ class Node:
     def __init__(self, settings, own, number):
         self.settings, self.own = settings, own
         self.peers, self.order, self.position = {own: ["a", number]}, [own], 0
-        self.alive, self.dead, self.timers = [], [], []
+        self.alive, self.dead, self.timers, self.departed = [], [], [], []
         self.draws, self.used, self.said, self.collected = [], 0, [], 0
 
     def copy(self):
@@ -89,6 +90,7 @@ class Node:
         other.peers = {peer: list(held) for peer, held in self.peers.items()}
         other.order, other.position = list(self.order), self.position
         other.alive, other.dead, other.timers = list(self.alive), list(self.dead), list(self.timers)
+        other.departed = list(self.departed)
         return other
 
     def draw(self):
@@ -104,7 +106,13 @@ class Node:
         self.order.insert(self.draw() % (len(self.order) + 1), peer)
         self.peers[peer] = ["a", number]
 
-    def remove(self, peer):
+    # "Remember the dead longer": the held number and the remover's are both counted
+    def remove(self, peer, number):
+        seen = [number, self.peers[peer][1]] + [known for gone, known in self.departed if gone == peer]
+        self.departed = [entry for entry in self.departed if entry[0] != peer]
+        if len(self.departed) == ROW:
+            self.departed.pop(0)
+        self.departed.append((peer, max(seen)))
         del self.peers[peer]
         self.order.remove(peer)
         if self.position == len(self.order):
@@ -179,6 +187,10 @@ class Node:
 
     # "Handler"
     def death(self, peer):
+        if self.settings["remember"]:
+            for gone, number in self.departed:
+                if gone == peer:
+                    return number
         return next((entry[0][3] for entry in self.dead if entry[0][2] == peer), None)
 
     def admitted_at(self, peer):
@@ -217,7 +229,7 @@ class Node:
                 self.peers[peer] = ["s", number]
                 self.emit(("s", self.own, peer, number))
         elif listed and number >= held:
-            self.remove(peer)
+            self.remove(peer, number)
             self.emit(("d", self.own, peer, number))
 
     def message(self, kind, sender, other, records):
@@ -280,7 +292,7 @@ class Node:
                 state, held = self.peers[peer]
                 if state == "a" or held > number:
                     return "refuted"
-                self.remove(peer)
+                self.remove(peer, number)
                 self.emit(("d", self.own, peer, number))
                 return "ok 0"
         return "notdue"
@@ -315,6 +327,7 @@ def state(node, wait):
     yield line("x", *heap(node.dead))
     yield line("t", *(f"{peer}:{number}:{since}" for peer, number, since in node.timers))
     yield line("w", *wait)
+    yield line("d", *(f"{peer}:{number}" for peer, number in node.departed))
 
 
 def call(node, wait, words, draws):
@@ -352,7 +365,7 @@ def answers(script):
             continue
         if words[0] == "new":
             names = ("interval", "ping", "req", "suspect", "group", "constant", "selected", "size")
-            settings = dict(zip(names, map(int, words[1:9])), collect=words[-1] == "collect")
+            settings = dict(zip(names, map(int, words[1:9])), collect="collect" in words, remember="remember" in words)
             own, held, tick = map(int, words[9:12])
             node, wait = Node(settings, own, held), ("ping", tick)
             print("= ok 0")
@@ -375,8 +388,8 @@ def answers(script):
 
 
 def malformed(words):
-    """As far as the lines go that hold `collect`."""
-    return "" in words or words[0] == "new" and len(words) + (words[-1] != "collect") != 13
+    """As far as the lines go that hold `collect` and `remember`."""
+    return "" in words or words[0] == "new" and words[12:] not in ([], ["collect"], ["remember"], ["collect", "remember"])
 
 
 def why(node, record, draws):
@@ -415,8 +428,8 @@ def script(seed, calls, lent=(0, 3, 40, 400, 400), greatest=2**64):
         peers = [65536 * (167772160 + place) + 7000 for place in range(1, rng.choice((3, 5, 9, 70, 200)))]
         own, now, top = peers[0], 0, rng.choice((2, 4, 12, 200))
         kinds, verbs = rng.choice(("jjrrssd", "jjrrssd", "jjd")), rng.choice((("ping", "ack", "ack", "req"), ("ack",)))
-        collect = rng.choice((" collect", " collect", ""))
-        print(line("new", 3, 2, 2, 4, rng.randrange(5), rng.randrange(1, 9), rng.choice((1, 6, 64)), rng.choice((111, 400, 1169)), own, rng.randrange(3), now) + collect)
+        options = rng.choice((" collect", " collect remember", " remember", " remember", ""))
+        print(line("new", 3, 2, 2, 4, rng.randrange(5), rng.randrange(1, 9), rng.choice((1, 6, 64)), rng.choice((111, 400, 1169)), own, rng.randrange(3), now) + options)
         for _ in range(min(left, rng.choice((30, 120, 400)))):
             left -= 1
             draws = " |" + "".join(f" {rng.randrange(greatest)}" for _ in range(rng.choice(lent)))
@@ -478,11 +491,62 @@ def stored():
     script(7, 300, (0, 3, 40), 1000)
 
 
+def departed():
+    own, peer, other = 1, 2, 3
+    plain = f"new 10 10 10 10 1 3 6 1169 {own} 0 0"
+    first = plain + " remember"
+
+    def printed(*texts):
+        for text in texts:
+            print(text)
+
+    def buried(peers, number):
+        """They are added, and one message buries them: no more than the list has places for."""
+        printed(*(f"add {gone} {number} | 0" for gone in peers), line("ack", 9, "-", *(f"d:9:{gone}:{number}" for gone in peers)) + " |")
+
+    def sent(times):
+        printed(*[f"req 9 {other} |"] * times)
+
+    print("# what it is for: the death was sent often enough, and the peer comes back above it; by Joined, by its Ping")
+    for begin in (first, plain):
+        printed(begin, f"add {peer} 6 | 0", f"ack 9 - d:9:{peer}:7 |", *[f"req 9 {other} |"] * 3, f"why j:9:{peer}:0 | 0", f"ack 9 - j:9:{peer}:0 | 0")
+        printed(begin, f"add {peer} 6 | 0", f"ack 9 - d:9:{peer}:7 |", *[f"req 9 {other} |"] * 3, f"ping {peer} - | 0")
+    print("# a second removal moves to the end, with the greatest; an address that is listed again stays in the row")
+    printed(first, f"ack 9 - j:9:{peer}:8 d:9:{peer}:8 j:9:{other}:1 d:9:{other}:1 | 0 0", f"add {peer} 2 | 0", f"ack 9 - d:9:{peer}:3 |", f"add {other} 5 | 0")
+    print("# a timer removes at its own number, or doesn't")
+    printed(f"wait dead {other} 6 0", "step 0 |", f"wait dead {peer} 6 0", "step 0 |", f"ack 9 - s:9:{other}:5 |", "timer 10", "timer 10", "timer 10")
+    print("# what it is not: one that made room begins anew, here at 0 after 5, and at 1")
+    printed(first)
+    buried([peer], 5)
+    sent(3)
+    for start, end in ((100, 163), (163, 226), (226, 228)):
+        buried(range(start, end), 0)
+        sent(6)
+    printed(f"why j:9:{peer}:0 | 0", f"ack 9 - j:9:{peer}:0 | 0", f"ack 9 - d:9:{peer}:1 |", f"why j:9:{peer}:0 | 0")
+    print("# nor this: the row's D is taken, 1, though the heap still holds a greater one, 9, from before it made room")
+    printed(f"new 10 10 10 10 1 2 1 111 {own} 0 0 remember")
+    buried([peer], 9)
+    for start, end in ((100, 163), (163, 226), (226, 227)):
+        buried(range(start, end), 0)
+    sent(33)
+    buried([300], 0)
+    buried([peer], 1)
+    sent(2)
+    print(f"why j:9:{peer}:0 | 0")
+    print("# D + 1 of the last number: 6")
+    printed(first, f"ack 9 - j:9:{peer}:{LAST} d:9:{peer}:{LAST} j:9:{peer}:0 | 0 0", f"ack 9 - j:9:{peer}:{LAST} d:9:{peer}:{LAST} | 0", f"why j:9:{peer}:0 | 0", f"ping {peer} - | 0")
+    print("# not of the form")
+    printed(first + " remember", first + " collect", first + " ", first + "s", plain + "  remember", plain + " collect remember", plain + " collect")
+    script(12, 150, (0, 3, 40), 1000)
+
+
 if __name__ == "__main__":
     if sys.argv[1:] == ["answers"]:
         answers(sys.stdin)
     elif sys.argv[1:] == ["stored"]:
         stored()
+    elif sys.argv[1:] == ["departed"]:
+        departed()
     elif len(sys.argv) == 4 and sys.argv[1] == "script":
         script(int(sys.argv[2]), int(sys.argv[3]))
     else:

@@ -47,7 +47,7 @@ def state(node):
     letters = "aps"
     lit = [sum(1 for a, s, _ in members if a != own and s == state) for state in range(3)]
     row = "".join(f" {word(a)}:{letters[s]}:{n}" for a, s, n in members)
-    return [f"@ {position}{row}", "l %d %d %d" % tuple(lit), "+", "x", "t", f"w ping {TICK}"]
+    return [f"@ {position}{row}", "l %d %d %d" % tuple(lit), "+", "x", "t", f"w ping {TICK}", "d"]
 
 
 class Host:

@@ -76,7 +76,7 @@ tell-leaves (handler.Emits k e) s ds = leaves-then (leaves-when (λ _. nothing) 
 
 pub act-leaves : (v : handler.Verdict Addr) (s : M.Node Addr) (ds : List ℕ) → Leaves ds (handler.act here v s ds)
 unfolding handler.act
-act-leaves v s ds = leaves-then (list-leaves here v (s .members) ds) (λ m rest. tell-leaves (handler.newsOf here v (s .own)) (M.withMembers s m) rest)
+act-leaves v s ds = leaves-then (list-leaves here v (s .members) ds) (λ m rest. tell-leaves (handler.newsOf here v (s .own)) _ rest)
 
 pub item-leaves : (e : W.Event Addr) (s : M.Node Addr) (ds : List ℕ) → Leaves ds (handler.item here e s ds)
 unfolding handler.item

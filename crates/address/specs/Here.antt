@@ -2,11 +2,11 @@
 -- Assumes nothing.
 use mathlib.Core.Path.{_≡_}
 use mathlib.Core.List.{List}
-use Prim.Native.Nat.{ℕ, _≤_}
+use Prim.Native.Nat.{ℕ, _≤_, _%_}
 use lib.ListN.{length}
 use Rattle.model.specs.Words.{Address, Lawful}
 use Rattle.address.specs.declared.Address as declared
-use Rattle.address.specs.Families.{families, families-lawful, textOf, text-of-long, chars-of-bounds, drawerOf}
+use Rattle.address.specs.Families.{families, families-lawful, textOf, text-of-long, chars-of-bounds, slotOf}
 
 abbrev pub Addr : Type 0
 Addr = declared.Address
@@ -17,9 +17,12 @@ here = families
 pub here-lawful : Lawful here
 here-lawful = families-lawful
 
--- where it is sought in a row
+-- by which it is told from others, and where it is sought in a row
+abbrev pub here-slot : Addr → ℕ
+here-slot = slotOf
+
 abbrev pub here-drawer : Addr → ℕ
-here-drawer = drawerOf
+here-drawer a = slotOf a % 64
 
 -- its text, byte by byte, and how long that is
 abbrev pub here-text : Addr → List ℕ

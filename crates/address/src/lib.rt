@@ -4,7 +4,7 @@ ghost use mathlib.Core.Path.{_≡_};
 ghost use Prim.Native.Nat.{_≤_, _<_};
 ghost use Rattle.address.specs.IPv4.{digits as digitsOf, textLength};
 ghost use Rattle.address.specs.Families.{number as numberOf, numbered};
-ghost use Rattle.address.specs.Here.{here, here-drawer};
+ghost use Rattle.address.specs.Here.{here, here-slot, here-drawer};
 
 // Of IPv6, or of IPv4, whose 32 bits stand in `low`.
 pub struct Address {
@@ -59,13 +59,20 @@ pub fn in_range(a: Address) -> bool
     )
 }
 
-// One of 64 drawers, by which an address is sought in a row: addresses that are near one another are put into different ones.
+// One of 1024 slots, by which an address is told from others: addresses that are near one another are put into different ones.
+pub fn slot(a: Address) -> usize
+    ensures { λ r. ⌜ (r ≡ here-slot a) × (r < 1024) ⌝ }
+{
+    let port = wide(a.port);
+    let mixed = (a.high % 1024 + a.low % 1024 + port % 1024) % 1024;
+    mixed as usize
+}
+
+// One of 64 drawers, by which an address is sought in a row.
 pub fn drawer(a: Address) -> usize
     ensures { λ r. ⌜ (r ≡ here-drawer a) × (r < 64) ⌝ }
 {
-    let port = wide(a.port);
-    let mixed = (a.high % 64 + a.low % 64 + port % 64) % 64;
-    mixed as usize
+    slot(a) % 64
 }
 
 // A port as a number.

@@ -21,7 +21,7 @@ use Rattle.laws.specs.After.{After, halts, gives, after-map, after-when, after-
 use Rattle.model.specs.Words.{Address, Lawful, isAlive, Event, Nothing, Joined, Recovered, Suspected, Deceased, Gossip, Timer, partsOf}
 use Rattle.model.specs.Members.{Members, added, add, update}
 use Rattle.model.specs.Node.{Disseminator, Node, Out, withMembers, withDisseminator, withTimers, quiet, pushed, emit, lists, numbered, stateOf, heldDeath, change, leave}
-use Rattle.model.specs.Handler.{Verdict, Enter, Raise, Recover, Suspect, Bury, Refute, Emits, listAfter, newsOf, act, item, admit, acked}
+use Rattle.model.specs.Handler.{Verdict, Enter, Raise, Recover, Suspect, Bury, Refute, Emits, listAfter, rowAfter, newsOf, act, item, admit, acked}
 use Rattle.model.specs.Detector.{suspect, byFate, timerAt, fateAt, endAt}
 use Rattle.laws_rules.specs.Judged.{Judged, skipped, joined-at-end, joined-low, joined-raises, joined-enters, recovered-unknown, recovered-low, recovered-recovers, own-at-end, own-refutes, suspected-unknown, suspected-equal, suspected-low, suspected-suspects, deceased-unknown, deceased-low, deceased-buries, judged, SenderJudged, listed-already, sender-at-end, sender-enters, sender-judged, Fated, fated-leaves, fated-alive, fated-greater, fated-absent, fated}
 use Rattle.laws_list.specs.Whole.{Whole}
@@ -94,7 +94,7 @@ module _ {A : Type 0} (address : Address A) (lawful : Lawful address) (a : A) wh
   unfolding act listAfter newsOf
   enter-did b n s d ds w f g c =
       after-then (add-gives b n (s .members) ds)
-      (λ r rest p. emit-did kind.Alive _ s (withMembers s r) d rest
+      (λ r rest p. emit-did kind.Alive _ s _ d rest
       (λ x _. came-did address a lawful b n (p .0) s d _ w (p .1) refl f (p .2) g c (said-at b n) (said-off b n)))
 
   -- a listed address is given a state and a number
@@ -145,14 +145,14 @@ module _ {A : Type 0} (address : Address A) (lawful : Lawful address) (a : A) wh
 
   -- the own address answers a suspicion
   refute-did : (f b : A) (n next : ℕ) (s : Node A) (ds : List ℕ) → Whole (address .same) (s .members) → Runs s (Told (Suspected f b n)) (act address (Refute next) s ds)
-  unfolding act listAfter newsOf
+  unfolding act listAfter rowAfter newsOf
   refute-did f b n next s ds w =
       emit-did kind.Alive _ s s (Told (Suspected f b n)) ds
       (λ x _. stay address a lawful s (Told (Suspected f b n)) _ w refl refl (λ _. refl) (λ _. refl)
       (λ q _. omega (arith, said-off (s .own) next (same-false (s .own) a q))))
 
   judged-did : (e : Event A) (v : Verdict A) (s : Node A) (x : Option ℕ) (ds : List ℕ) → Whole (address .same) (s .members) → Judged address (s .own) (s .members .table) x e v → Runs s (Told e) (act address v s ds)
-  unfolding listAfter newsOf act
+  unfolding listAfter rowAfter newsOf act
   judged-did _ _ s x ds w skipped = idle s (Told Nothing) ds w (λ _. refl) (λ _. refl)
   judged-did _ _ s x ds w (joined-at-end e) = halts
   judged-did _ _ s x ds w (joined-low {f = f} {a = b} {n = n} least e l h) = idle s (Told (Joined f b n)) ds w (λ _. refl) (apart b s l)
@@ -179,7 +179,7 @@ module _ {A : Type 0} (address : Address A) (lawful : Lawful address) (a : A) wh
   item-did e s ds w = judged-did e _ s _ ds w (judged address (s .own) (s .members .table) (heldDeath address (partsOf address e .subject) s) e)
 
   sender-did : (b : A) (v : Verdict A) (s : Node A) (x : Option ℕ) (ds : List ℕ) → Whole (address .same) (s .members) → SenderJudged address (s .own) (s .members .table) x b v → Runs s (Sender b) (act address v s ds)
-  unfolding listAfter newsOf act
+  unfolding listAfter rowAfter newsOf act
   sender-did b _ s x ds w (listed-already l) = idle s (Sender b) ds w (λ _. refl) (apart b s l)
   sender-did b _ s x ds w (sender-at-end l e) = halts
   sender-did b _ s x ds w (sender-enters n l e) = enter-did b n s (Sender b) ds w l refl refl

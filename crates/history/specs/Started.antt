@@ -20,7 +20,7 @@ use Rattle.model.specs.Answers.{Answer, done, refused, andThen}
 use Rattle.laws.specs.After.{After, halts, gives, after-when, after-then, after-both}
 use Rattle.model.specs.Words.{Address, Lawful, Event, Deceased, Gossip, Message, Action, Ping, PingReq, Ack, Timer, Wait, WaitState, SendingPing, WaitingForPingAck, SendingPingReq, WaitingForPingReqAck, Declaring}
 use Rattle.model.specs.Members.{Members, Picked, pickFrom}
-use Rattle.model.specs.Node.{Node, Out, Effect, Stored, loaded, stored, fresh, withMembers, andMore, quiet, pushed, emit, lists, change, leave, spread}
+use Rattle.model.specs.Node.{Node, Out, Effect, Stored, loaded, stored, fresh, withMembers, withLists, andMore, quiet, pushed, emit, lists, change, leave, spread}
 use Rattle.model.specs.Handler as handler
 use Rattle.model.specs.Detector as D
 use Rattle.model.specs.Detector.{Stepped}
@@ -119,9 +119,9 @@ module _ {A : Type 0} (address : Address A) where
   unfolding handler.act
   act-alone v s ds = from (handler.listAfter address v (s .members) ds)
     where
-      from : (x : Answer (Members A)) → Alone (s .timers) (andThen x λ m rest. handler.tell address (handler.newsOf address v (s .own)) (withMembers s m) rest)
+      from : (x : Answer (Members A)) → Alone (s .timers) (andThen x λ m rest. handler.tell address (handler.newsOf address v (s .own)) (withLists s m (handler.rowAfter address v (s .members .table) (s .departed))) rest)
       from (refused r) = halts
-      from (done m rest) = tell-alone (handler.newsOf address v (s .own)) (withMembers s m) rest
+      from (done m rest) = tell-alone (handler.newsOf address v (s .own)) (withLists s m (handler.rowAfter address v (s .members .table) (s .departed))) rest
 
   item-alone : (e : Event A) (s : Node A) (ds : List ℕ) → Alone (s .timers) (handler.item address e s ds)
   unfolding handler.item

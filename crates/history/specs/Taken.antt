@@ -15,12 +15,12 @@ use Rattle.model.specs.declared.Fate.the-variants.{Leaves, Stays, Absent}
 use Rattle.model.specs.declared.Reply.{Reply}
 use Rattle.model.specs.declared.Reply.the-variants.{Done, Already, NotDue, Refuted, Gone, Refused, RefusedAt}
 use Rattle.model.specs.Answers.{Answer, done, refused, andThen}
-use Rattle.model.specs.Words.{Address, Event, Nothing, Joined, Recovered, Suspected, Deceased, Gossip, unused, sendsOf, Action, Ping, PingReq, Ack, WaitState, SendingPing, WaitingForPingAck, SendingPingReq, WaitingForPingReqAck, Declaring, Wait, Timer}
+use Rattle.model.specs.Words.{Address, Event, Nothing, Joined, Recovered, Suspected, Deceased, Gossip, unused, sendsOf, Action, Ping, PingReq, Ack, WaitState, SendingPing, WaitingForPingAck, SendingPingReq, WaitingForPingReqAck, Declaring, Wait, Timer, Departed}
 use Rattle.model.specs.Heap.{push}
 use Rattle.model.specs.Choose.{entryOf}
 use Rattle.model.specs.Members as list
 use Rattle.model.specs.Collect.{collects, cleared}
-use Rattle.model.specs.Node.{Disseminator, Node, Out, Effect, Stored, loaded, withHeap, heapOf, withMembers, quiet, andMore, collecting, pushed, emit, lists, change, leave}
+use Rattle.model.specs.Node.{Disseminator, Node, Out, Effect, Stored, loaded, withHeap, heapOf, withMembers, withLists, quiet, andMore, collecting, pushed, emit, lists, change, leave}
 use Rattle.model.specs.Handler as handler
 use Rattle.model.specs.Detector as D
 use Rattle.model.specs.Calls as calls
@@ -80,10 +80,10 @@ module _ {A : Type 0} (address : Address A) where
   heaps-of on kind.Alive g d = refl
   heaps-of on kind.Deceased g d = refl
 
-  emit-takes : (e : Event A) (s : Node A) (m : list.Members A) (ts : List (Timer A)) (ds : List ℕ)
-      → Takes s (emit address (heapFor e) (record { event = e }) (record { settings = s .settings; own = s .own; members = m; disseminator = s .disseminator; timers = ts }) ds)
+  emit-takes : (e : Event A) (s : Node A) (m : list.Members A) (ts : List (Timer A)) (gone : List (Departed A)) (ds : List ℕ)
+      → Takes s (emit address (heapFor e) (record { event = e }) (record { settings = s .settings; own = s .own; members = m; disseminator = s .disseminator; timers = ts; departed = gone }) ds)
   unfolding emit pushed
-  emit-takes e s m ts ds =
+  emit-takes e s m ts gone ds =
       let g : Gossip A = record { event = e } in
       let on = s .settings .collect in
       after-then {P = λ d. d ≡ heapsAfter on (heapFor e) g (s .disseminator)} (after-when (λ _. halts) (λ _. gives (heaps-of on (heapFor e) g (s .disseminator))))
@@ -112,13 +112,13 @@ module _ {A : Type 0} (address : Address A) where
   unfolding quiet
   quiet-takes s s′ ds e f = gives {b = record { node = s′; said = []; collected = 0 }} (record { told = refl; heaps = e; settings = f })
 
-  tell-takes : (w : handler.News A) (s : Node A) (m : list.Members A) (ds : List ℕ) → Goes w → Takes s (handler.tell address w (withMembers s m) ds)
-  tell-takes handler.Silent s m ds h = quiet-takes s (withMembers s m) ds refl refl
-  tell-takes (handler.Emits k e) s m ds h = subst (λ (j : Kind). Takes s (emit address j (record { event = e }) (withMembers s m) ds)) h (emit-takes e s m (s .timers) ds)
+  tell-takes : (w : handler.News A) (s : Node A) (m : list.Members A) (gone : List (Departed A)) (ds : List ℕ) → Goes w → Takes s (handler.tell address w (withLists s m gone) ds)
+  tell-takes handler.Silent s m gone ds h = quiet-takes s (withLists s m gone) ds refl refl
+  tell-takes (handler.Emits k e) s m gone ds h = subst (λ (j : Kind). Takes s (emit address j (record { event = e }) (withLists s m gone) ds)) h (emit-takes e s m (s .timers) gone ds)
 
   act-takes : (v : handler.Verdict A) (s : Node A) (ds : List ℕ) → Takes s (handler.act address v s ds)
   unfolding handler.act
-  act-takes v s ds = after-then (after-any (handler.listAfter address v (s .members) ds)) (λ m rest _. tell-takes (handler.newsOf address v (s .own)) s m rest (news-goes v (s .own)))
+  act-takes v s ds = after-then (after-any (handler.listAfter address v (s .members) ds)) (λ m rest _. tell-takes (handler.newsOf address v (s .own)) s m _ rest (news-goes v (s .own)))
 
   pub item-takes : (e : Event A) (s : Node A) (ds : List ℕ) → Takes s (handler.item address e s ds)
   unfolding handler.item
@@ -130,14 +130,14 @@ module _ {A : Type 0} (address : Address A) where
 
   pub suspect-takes : (a : A) (n : ℕ) (s : Node A) (ds : List ℕ) → Takes s (D.suspect address a n s ds)
   unfolding D.suspect change
-  suspect-takes a n s ds = emit-takes (Suspected (s .own) a n) s _ _ ds
+  suspect-takes a n s ds = emit-takes (Suspected (s .own) a n) s _ _ _ ds
 
   pub end-takes : (i : ℕ) (s : Node A) (ds : List ℕ) → Takes s (D.endAt address i s ds)
   unfolding D.endAt D.byFate leave
   end-takes i s ds = by (D.fateAt address i s)
     where
       by : (v : Fate) → Takes s (D.byFate address v (D.timerAt address i s) (D.freed address i s) ds)
-      by Leaves = emit-takes (Deceased (s .own) (D.timerAt address i s .addr) (D.timerAt address i s .number)) s _ _ ds
+      by Leaves = emit-takes (Deceased (s .own) (D.timerAt address i s .addr) (D.timerAt address i s .number)) s _ _ _ ds
       by Stays = quiet-takes s (D.freed address i s) ds refl refl
       by Absent = quiet-takes s (D.freed address i s) ds refl refl
 

@@ -22,12 +22,12 @@ use Rattle.model.specs.declared.Reply.the-variants.{Done, Already, NotDue, Refu
 use Rattle.model.specs.Rows.{pick}
 use Rattle.model.specs.Bounds.{heap-places, timer-places}
 use Rattle.model.specs.Answers.{Answer, done, refused, andThen, when, fullOf}
-use Rattle.model.specs.Words.{Address, Event, Suspected, Deceased, Gossip, Entry, unused, sendsOf, Action, Ping, PingReq, Ack, Message, WaitState, SendingPing, WaitingForPingAck, SendingPingReq, WaitingForPingReqAck, Declaring, Wait}
+use Rattle.model.specs.Words.{Address, Event, Suspected, Deceased, Gossip, Entry, unused, sendsOf, Action, Ping, PingReq, Ack, Message, WaitState, SendingPing, WaitingForPingAck, SendingPingReq, WaitingForPingReqAck, Declaring, Wait, Departed}
 use Rattle.model.specs.Heap.{push}
 use Rattle.model.specs.Choose.{entryOf}
 use Rattle.model.specs.Members as list
 use Rattle.model.specs.Collect.{collects, rebuilt, cleared}
-use Rattle.model.specs.Node.{Disseminator, Node, Out, Effect, Stored, loaded, stored, withHeap, heapOf, withMembers, withDisseminator, withTimers, quiet, andMore, pushed, emit, lists, numbered, change, leave, spread}
+use Rattle.model.specs.Node.{Disseminator, Node, Out, Effect, Stored, loaded, stored, withHeap, heapOf, withMembers, withLists, withDisseminator, withTimers, quiet, andMore, pushed, emit, lists, numbered, change, leave, spread}
 use Rattle.model.specs.Handler as handler
 use Rattle.model.specs.Detector as D
 use Rattle.model.specs.Sound.{inRange, sound}
@@ -47,11 +47,12 @@ settingsOff t =
       «max_selected» = t .«max_selected»;
       «max_size» = t .«max_size»;
       collect = false;
+      remember = t .remember;
     }
 
 module _ {A : Type 0} where
   abbrev pub off : Node A → Node A
-  off s = record { settings = settingsOff (s .settings); own = s .own; members = s .members; disseminator = s .disseminator; timers = s .timers }
+  off s = record { settings = settingsOff (s .settings); own = s .own; members = s .members; disseminator = s .disseminator; timers = s .timers; departed = s .departed }
 
   -- what a rule gave, and what it gives with the setting off: if it took nothing, the same
   abbrev pub Same : Answer (Out A) → Answer (Out A) → Type 0
@@ -105,10 +106,13 @@ module _ {A : Type 0} (address : Address A) where
   unfolding handler.act
   act-same v s ds = by (handler.listAfter address v (s .members) ds)
     where
-      by : (x : Answer (list.Members A)) → Same (andThen x λ m rest. handler.tell address (handler.newsOf address v (s .own)) (withMembers s m) rest)
-          (andThen x λ m rest. handler.tell address (handler.newsOf address v (s .own)) (withMembers (off s) m) rest)
+      gone : List (Departed A)
+      gone = handler.rowAfter address v (s .members .table) (s .departed)
+
+      by : (x : Answer (list.Members A)) → Same (andThen x λ m rest. handler.tell address (handler.newsOf address v (s .own)) (withLists s m gone) rest)
+          (andThen x λ m rest. handler.tell address (handler.newsOf address v (s .own)) (withLists (off s) m gone) rest)
       by (refused r) = tt
-      by (done m rest) = tell-same (handler.newsOf address v (s .own)) (withMembers s m) rest
+      by (done m rest) = tell-same (handler.newsOf address v (s .own)) (withLists s m gone) rest
 
   pub item-same : (e : Event A) (s : Node A) (ds : List ℕ) → Same (handler.item address e s ds) (handler.item address e (off s) ds)
   unfolding handler.item
@@ -257,6 +261,7 @@ module _ {A : Type 0} (address : Address A) where
         alive = s .alive;
         deceased = s .deceased;
         timers = s .timers;
+        departed = s .departed;
       }
 
   -- a kept call that collected nothing is the same with the setting off: how it ended, the node, the messages, the events and the wait record

@@ -8,3 +8,4 @@ pub mod Aside
 pub mod Picking
 pub mod Updates
 pub mod Counting
+pub mod Departing

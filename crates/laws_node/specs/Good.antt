@@ -12,14 +12,15 @@ use borrow.Author.Tests.{eqb-true, eq-eqb, ltb-true, lt-ltb, leb-true, le-leb}
 use Rattle.model.specs.declared.State.{State}
 use Rattle.model.specs.declared.State.the-variants as state
 use Rattle.model.specs.declared.Lamps.{Lamps}
-use Rattle.model.specs.Rows.{every, padTo}
-use Rattle.model.specs.Words.{Address, Lawful, isAlive, Member, Timer, unused, noMember, noTimer}
+use Rattle.model.specs.Rows.{every, padTo, occurs}
+use Rattle.model.specs.Words.{Address, Lawful, isAlive, Member, Timer, Departed, unused, noMember, noTimer, noDeparted}
 use Rattle.model.specs.Members.{Members, addrs}
+use Rattle.model.specs.Departed.{gone}
 use Rattle.model.specs.Lamps.{lampsOf, sameLamps}
 use Rattle.model.specs.Node.{heapOf, Node, Row, Stored, inUse, rowOf, loaded, stored}
 use Rattle.model.specs.declared.Kind.{Kind}
 use Rattle.model.specs.declared.Kind.the-variants as kind
-use Rattle.model.specs.Sound.{inRange, positioned, soundHeap, isNoMember, soundRows, soundMembers, isNoTimer, soundTimers, sound}
+use Rattle.model.specs.Sound.{inRange, positioned, soundHeap, isNoMember, soundRows, soundMembers, isNoTimer, soundTimers, isNoDeparted, soundDeparted, sound}
 use Rattle.laws_list.specs.Whole.{Whole}
 use Rattle.laws_list.specs.Counting.{lamps-eq, lamps-same}
 use Rattle.laws_list.specs.Distinct.{distinct-once, once-distinct, permutes-counts, counts-permutes}
@@ -28,6 +29,12 @@ use Rattle.laws.specs.Pad.{take-pad, drop-pad, pad-take}
 use Rattle.laws_choose.specs.GoodHeap.{GoodHeap, sound-heap, heap-good}
 
 module _ {A : Type 0} (address : Address A) where
+  -- what a row of the departed holds: no more than its places, each address once, all in range
+  pub record GoodDeparted (r : List (Departed A)) : Type 0 where
+    pub few : length r ≤ 128
+    pub once : (b : A) → occurs (address .same) b (gone r) ≤ 1
+    pub valid : every (address .valid) (gone r) ≡ true
+
   pub record Good (s : Node A) : Type 0 where
     pub settings : inRange (s .settings) ≡ true
     pub own : address .valid (s .own) ≡ true
@@ -36,6 +43,7 @@ module _ {A : Type 0} (address : Address A) where
     pub heaps : (k : Kind) → GoodHeap address k (heapOf k (s .disseminator))
     pub few : length (s .timers) ≤ 16
     pub timers : every (λ (t : Timer A). address .valid (t .addr)) (s .timers) ≡ true
+    pub departed : GoodDeparted (s .departed)
 
 -- the rows have as many places as the scope says
 pub record FullRows {A : Type 0} (s : Stored A) : Type 0 where
@@ -44,6 +52,7 @@ pub record FullRows {A : Type 0} (s : Stored A) : Type 0 where
   pub alive : length (s .alive .places) ≡ 128
   pub deceased : length (s .deceased .places) ≡ 128
   pub timers : length (s .timers .places) ≡ 16
+  pub departed : length (s .departed .places) ≡ 128
 
 -- "position below the length, or 0 if empty"
 pub positioned-le : (p n : ℕ) → positioned p n ≡ true → p ≤ n - 1
@@ -80,6 +89,13 @@ module _ {A : Type 0} (address : Address A) (lawful : Lawful address) where
       let z : t .since ≡ 0 = eqb-true _ _ (p .1) in
       λ i. record { addr = x i; number = y i; since = z i }
 
+  no-departed : (d : Departed A) → isNoDeparted address d ≡ true → d ≡ noDeparted address
+  no-departed d e =
+      let p = and-split _ _ e in
+      let x : d .addr ≡ address .blank = lawful .test .same-eq _ _ (p .0) in
+      let y : d .number ≡ 0 = eqb-true _ _ (p .1) in
+      λ i. record { addr = x i; number = y i }
+
   blank-same : address .same (address .blank) (address .blank) ≡ true
   blank-same = lawful .test .same-refl (address .blank)
 
@@ -89,6 +105,14 @@ module _ {A : Type 0} (address : Address A) (lawful : Lawful address) where
   sound-timers l h e =
       rw (take-pad 16 (noTimer address) l, drop-pad 16 (noTimer address) l)
       (and-join (and-join (le-leb (length l) 16 h) e) (every-replicate (isNoTimer address) (16 - length l) (noTimer address) (and-join (and-join blank-same refl) refl)))
+
+  sound-departed : (r : List (Departed A)) → GoodDeparted address r → soundDeparted address (rowOf 128 (noDeparted address) r) ≡ true
+  unfolding soundDeparted
+  sound-departed r g =
+      rw (take-pad 128 (noDeparted address) r, drop-pad 128 (noDeparted address) r)
+      (and-join
+      (and-join (and-join (le-leb (length r) 128 (g .few)) (once-distinct (address .same) (lawful .test) (gone r) (g .once))) (g .valid))
+      (every-replicate (isNoDeparted address) (128 - length r) (noDeparted address) (and-join blank-same refl)))
 
   sound-members : (own : A) (m : Members A) → Whole (address .same) m → every (address .valid) (addrs (m .table)) ≡ true
       → soundMembers address own (padTo 64 (noMember address) (m .table)) (padTo 64 (address .blank) (m .order)) (length (m .table)) (m .position)
@@ -122,11 +146,13 @@ module _ {A : Type 0} (address : Address A) (lawful : Lawful address) where
       (and-join
       (and-join
       (and-join
+      (and-join
       (and-join (g .settings) (g .own))
       (sound-members (s .own) (s .members) (g .whole) (g .valid)))
       (sound-heap address kind.Alive (s .disseminator .alive) (g .heaps kind.Alive)))
       (sound-heap address kind.Deceased (s .disseminator .deceased) (g .heaps kind.Deceased)))
-      (sound-timers (s .timers) (g .few) (g .timers))
+      (sound-timers (s .timers) (g .few) (g .timers)))
+      (sound-departed (s .departed) (g .departed))
 
   -- what is stored is loaded again
   pub loaded-stored : (s : Node A) → Whole (address .same) (s .members) → loaded (stored address s) ≡ s
@@ -138,12 +164,14 @@ module _ {A : Type 0} (address : Address A) (lawful : Lawful address) where
       let a = take-pad 128 unused (s .disseminator .alive) in
       let d = take-pad 128 unused (s .disseminator .deceased) in
       let m : take (length (s .timers)) (padTo 16 (noTimer address) (s .timers)) ≡ s .timers = take-pad 16 (noTimer address) (s .timers) in
+      let e = take-pad 128 (noDeparted address) (s .departed) in
       λ i. record {
         settings = s .settings;
         own = s .own;
         members = record { table = t i; order = o i; position = s .members .position };
         disseminator = record { alive = a i; deceased = d i };
         timers = m i;
+        departed = e i;
       }
 
   -- Rows that pass the test hold a good node. First each part
@@ -156,6 +184,20 @@ module _ {A : Type 0} (address : Address A) (lawful : Lawful address) where
       let few : r .used ≤ 16 = leb-true _ _ (t .0) in
       let l : length (inUse r) ≡ r .used = length-take-le (r .used) (r .places) (omega arith) in
       (omega arith, t .1, l, pad-take (isNoTimer address) (noTimer address) no-timer 16 (r .used) (r .places) e few (q .1))
+
+  departed-good : (r : Row (Departed A)) → length (r .places) ≡ 128 → soundDeparted address r ≡ true
+      → GoodDeparted address (inUse r) × (length (inUse r) ≡ r .used) × (r .places ≡ padTo 128 (noDeparted address) (inUse r))
+  unfolding soundDeparted
+  departed-good r e p =
+      let p₁ = and-split _ _ p in
+      let p₂ = and-split _ _ (p₁ .0) in
+      let p₃ = and-split _ _ (p₂ .0) in
+      let few : r .used ≤ 128 = leb-true _ _ (p₃ .0) in
+      let l : length (inUse r) ≡ r .used = length-take-le (r .used) (r .places) (omega arith) in (
+        record { few = omega arith; once = distinct-once (address .same) (lawful .test) (gone (inUse r)) (p₃ .1); valid = p₂ .1 },
+        l,
+        pad-take (isNoDeparted address) (noDeparted address) no-departed 128 (r .used) (r .places) e few (p₁ .1),
+      )
 
   pub record GoodRows (own : A) (ms : List (Member A)) (os : List A) (n position : ℕ) (ls : Lamps) : Type 0 where
     pub whole : Whole (address .same) (record { table = take n ms; order = take n os; position = position })
@@ -207,6 +249,7 @@ module _ {A : Type 0} (address : Address A) (lawful : Lawful address) where
   parts-of : (s : Stored A) → sound address s ≡ true
       → (inRange (s .settings) ≡ true) × (address .valid (s .own) ≡ true) × (soundMembers address (s .own) (s .table) (s .order) (s .listed) (s .position) (s .lamps) ≡ true)
       × (soundHeap address kind.Alive (s .alive) ≡ true) × (soundHeap address kind.Deceased (s .deceased) ≡ true) × (soundTimers address (s .timers) ≡ true)
+      × (soundDeparted address (s .departed) ≡ true)
   unfolding sound
   parts-of s p =
       let p₁ = and-split _ _ p in
@@ -214,7 +257,8 @@ module _ {A : Type 0} (address : Address A) (lawful : Lawful address) where
       let p₃ = and-split _ _ (p₂ .0) in
       let p₄ = and-split _ _ (p₃ .0) in
       let p₅ = and-split _ _ (p₄ .0) in
-      (p₅ .0, p₅ .1, p₄ .1, p₃ .1, p₂ .1, p₁ .1)
+      let p₆ = and-split _ _ (p₅ .0) in
+      (p₆ .0, p₆ .1, p₅ .1, p₄ .1, p₃ .1, p₂ .1, p₁ .1)
 
   -- and so are those of a sound node, whatever its rows
   pub sound-lamps : (s : Stored A) → sound address s ≡ true → s .lamps ≡ lampsOf (address .same) (s .own) (loaded s .members .table)
@@ -239,6 +283,7 @@ module _ {A : Type 0} (address : Address A) (lawful : Lawful address) where
             ];
         few = t .0;
         timers = t .1;
+        departed = departed-good (s .departed) (f .departed) (q .6) .0;
       }
 
   -- and they are the rows of that node
@@ -250,6 +295,7 @@ module _ {A : Type 0} (address : Address A) (lawful : Lawful address) where
       let t = timers-good (s .timers) (f .timers) (q .5) in
       let a = heap-good address kind.Alive (s .alive) (f .alive) (q .3) in
       let d = heap-good address kind.Deceased (s .deceased) (f .deceased) (q .4) in
+      let e = departed-good (s .departed) (f .departed) (q .6) in
       λ i. record {
         settings = s .settings;
         own = s .own;
@@ -261,4 +307,5 @@ module _ {A : Type 0} (address : Address A) (lawful : Lawful address) where
         alive = record { places = sym (a .2) i; used = a .1 i };
         deceased = record { places = sym (d .2) i; used = d .1 i };
         timers = record { places = sym (t .3) i; used = t .2 i };
+        departed = record { places = sym (e .2) i; used = e .1 i };
       }

@@ -4,7 +4,7 @@ use mathlib.Core.Path.{_≡_, refl, sym, _∙_}
 use mathlib.Core.Bool.{Bool, true, false, _&&_}
 use mathlib.Core.List.{List, [], _∷_}
 use mathlib.Core.Option.{Option}
-use Prim.Native.Nat.{ℕ, _≤_}
+use Prim.Native.Nat.{ℕ, _≤_, max}
 use native.Mathlib.Omega.{arith}
 use lib.ListN.{length}
 use lib.Dec.{eqb}
@@ -15,7 +15,7 @@ use Rattle.model.specs.Rows.{pick, every, erase}
 use Rattle.model.specs.Answers.{Answer}
 use Rattle.laws.specs.Bools.{and-split, and-join, every-append}
 use Rattle.laws.specs.After.{After, halts, gives, after-when, after-draw, after-then}
-use Rattle.model.specs.Words.{Address, Lawful, Member, Event, Joined, Recovered, Suspected, Deceased, Gossip, Entry, Timer, partsOf, unused, sendsOf}
+use Rattle.model.specs.Words.{Address, Lawful, Member, Event, Joined, Recovered, Suspected, Deceased, Gossip, Entry, Timer, Departed, partsOf, unused, sendsOf}
 use Rattle.model.specs.Limit.{limitOf}
 use Rattle.model.specs.Size.{sizeOf}
 use Rattle.laws_choose.specs.LimitLaws.{limit-most}
@@ -23,15 +23,17 @@ use Rattle.laws_heap.specs.HeapLaws.{push-length, push-every}
 use Rattle.laws_heap.specs.HeapTests.{push-in-order}
 use Rattle.model.specs.Heap.{push}
 use Rattle.model.specs.Choose.{termsOf, entryOf}
-use Rattle.model.specs.Members.{Members, addrs, added, add, remove, merged, update}
-use Rattle.model.specs.Node.{Disseminator, heapOf, withHeap, Node, Out, withMembers, withDisseminator, withTimers, quiet, andMore, collecting, pushes, pushed, emit, lists, numbered, stateOf, heldDeath, change, leave, spread}
-use Rattle.model.specs.Handler.{Verdict, Skip, Unknown, Equal, Low, AtEnd, Refute, Enter, Raise, Recover, Suspect, Bury, News, Silent, Emits, listAfter, newsOf, tell, act, item, gossip, admit, acked}
+use Rattle.model.specs.Members.{Members, addrs, added, add, remove, merged, update, held}
+use Rattle.model.specs.Departed.{gone, departs}
+use Rattle.model.specs.Node.{Disseminator, heapOf, withHeap, Node, Out, withMembers, withDisseminator, withTimers, withLists, quiet, andMore, collecting, pushes, pushed, emit, lists, numbered, stateOf, heldDeath, change, leave, spread}
+use Rattle.model.specs.Handler.{Verdict, Skip, Unknown, Equal, Low, AtEnd, Refute, Enter, Raise, Recover, Suspect, Bury, News, Silent, Emits, listAfter, rowAfter, newsOf, tell, act, item, gossip, admit, acked}
 use Rattle.laws_rules.specs.Judged.{Judged, skipped, joined-at-end, joined-low, joined-raises, joined-enters, recovered-unknown, recovered-low, recovered-recovers, own-at-end, own-refutes, suspected-unknown, suspected-equal, suspected-low, suspected-suspects, deceased-unknown, deceased-low, deceased-buries, judged, SenderJudged, listed-already, sender-at-end, sender-enters, sender-judged}
 use Rattle.model.specs.declared.Kind.{Kind}
 use Rattle.model.specs.declared.Kind.the-variants as kind
 use Rattle.model.specs.Sound.{ofKind, validGossip, soundEntry}
 use Rattle.laws_list.specs.Whole.{Whole, added-whole, remove-whole, update-whole, put-addrs, strike-addrs, addrs-append}
-use Rattle.laws_node.specs.Good.{Good}
+use Rattle.laws_list.specs.Departing.{depart-few, depart-once, depart-every}
+use Rattle.laws_node.specs.Good.{Good, GoodDeparted}
 use Rattle.laws_choose.specs.GoodHeap.{GoodHeap}
 use Rattle.laws_choose.specs.Collecting.{cleared-good}
 use Rattle.laws.specs.Ranges.{ranges}
@@ -73,14 +75,18 @@ module _ {A : Type 0} (address : Address A) where
   -- the parts of a good node that a rule replaces
   pub with-members : (s : Node A) (m : Members A) → Good address s → Whole (address .same) m → every (address .valid) (addrs (m .table)) ≡ true → Good address (withMembers s m)
   with-members s m g w v =
-      record { settings = g .settings; own = g .own; whole = w; valid = v; heaps = g .heaps; few = g .few; timers = g .timers }
+      record { settings = g .settings; own = g .own; whole = w; valid = v; heaps = g .heaps; few = g .few; timers = g .timers; departed = g .departed }
 
   pub with-disseminator : (s : Node A) (d : Disseminator A) → Good address s → ((k : Kind) → GoodHeap address k (heapOf k d)) → Good address (withDisseminator s d)
-  with-disseminator s d g p = record { settings = g .settings; own = g .own; whole = g .whole; valid = g .valid; heaps = p; few = g .few; timers = g .timers }
+  with-disseminator s d g p = record { settings = g .settings; own = g .own; whole = g .whole; valid = g .valid; heaps = p; few = g .few; timers = g .timers; departed = g .departed }
 
   pub with-timers : (s : Node A) (ts : List (Timer A)) → Good address s → length ts ≤ 16 → every (λ (t : Timer A). address .valid (t .addr)) ts ≡ true → Good address (withTimers s ts)
   with-timers s ts g p q =
-      record { settings = g .settings; own = g .own; whole = g .whole; valid = g .valid; heaps = g .heaps; few = p; timers = q }
+      record { settings = g .settings; own = g .own; whole = g .whole; valid = g .valid; heaps = g .heaps; few = p; timers = q; departed = g .departed }
+
+  pub with-departed : (s : Node A) (m : Members A) (r : List (Departed A)) → Good address (withMembers s m) → GoodDeparted address r → Good address (withLists s m r)
+  with-departed s m r g p =
+      record { settings = g .settings; own = g .own; whole = g .whole; valid = g .valid; heaps = g .heaps; few = g .few; timers = g .timers; departed = p }
 
   -- a rule's node is good, and its own address is the same
   pub record Keeps (s : Node A) (s′ : Node A) : Type 0 where
@@ -164,12 +170,25 @@ module _ {A : Type 0} (address : Address A) where
           | false ↦ and-join (p .0) (every-erase f a l (p .1))
         ]
 
-    pub leave-keeps : (b : A) (s : Node A) → Good address s → lists address b s ≡ true → Keeps s (leave address b s)
-    unfolding leave remove
-    leave-keeps b s g e =
+    -- a removal is remembered
+    departs-good : (b : A) (n : ℕ) (t : List (Member A)) (r : List (Departed A)) → address .valid b ≡ true → GoodDeparted address r → GoodDeparted address (departs (address .same) b n t r)
+    unfolding departs
+    departs-good b n t r v g =
+        let k = max (held (address .same) b t) n in
         record {
-          good = with-members s _ g (remove-whole (address .same) (lawful .test) b (s .members) (g .whole) e)
-              (rw (strike-addrs (address .same) (lawful .test) b (s .members .table)) (every-erase (address .valid) b (addrs (s .members .table)) (g .valid)));
+          few = depart-few (address .same) b k r (g .few);
+          once = depart-once (address .same) (lawful .test) b k r (g .once);
+          valid = depart-every (address .same) (address .valid) b k r v (g .valid);
+        }
+
+    pub leave-keeps : (b : A) (n : ℕ) (s : Node A) → Good address s → address .valid b ≡ true → lists address b s ≡ true → Keeps s (leave address b n s)
+    unfolding leave remove
+    leave-keeps b n s g v e =
+        record {
+          good = with-departed s _ _
+              (with-members s _ g (remove-whole (address .same) (lawful .test) b (s .members) (g .whole) e)
+              (rw (strike-addrs (address .same) (lawful .test) b (s .members .table)) (every-erase (address .valid) b (addrs (s .members .table)) (g .valid))))
+              (departs-good b n (s .members .table) (s .departed) v (g .departed));
           own = refl;
           settings = refl;
         }
@@ -204,8 +223,9 @@ module _ {A : Type 0} (address : Address A) where
     Allowed (Suspect a n) s = address .valid a ≡ true
     Allowed (Bury a n) s = (address .valid a ≡ true) × (lists address a s ≡ true)
 
-    list-keeps : (v : Verdict A) (s : Node A) (ds : List ℕ) → Good address s → Allowed v s → After (λ m. Keeps s (withMembers s m)) (listAfter address v (s .members) ds)
-    unfolding listAfter change leave
+    list-keeps : (v : Verdict A) (s : Node A) (ds : List ℕ) → Good address s → Allowed v s
+        → After (λ m. Keeps s (withLists s m (rowAfter address v (s .members .table) (s .departed)))) (listAfter address v (s .members) ds)
+    unfolding listAfter rowAfter change leave
     list-keeps Skip s ds g w = gives (same-node g)
     list-keeps Unknown s ds g w = gives (same-node g)
     list-keeps Equal s ds g w = gives (same-node g)
@@ -216,7 +236,7 @@ module _ {A : Type 0} (address : Address A) where
     list-keeps (Raise a n) s ds g w = gives (change-keeps a (stateOf address a s) n s g)
     list-keeps (Recover a n) s ds g w = gives (change-keeps a state.Alive n s g)
     list-keeps (Suspect a n) s ds g w = gives (change-keeps a state.Suspected n s g)
-    list-keeps (Bury a n) s ds g w = gives (leave-keeps a s g (w .1))
+    list-keeps (Bury a n) s ds g w = gives (leave-keeps a n s g (w .0) (w .1))
 
     news-fit : (v : Verdict A) (s : Node A) → Good address s → Allowed v s → NewsFits (newsOf address v (s .own))
     unfolding newsOf partsOf
@@ -240,7 +260,7 @@ module _ {A : Type 0} (address : Address A) where
     -- carrying out a verdict keeps a node good
     pub act-keeps : (v : Verdict A) (s : Node A) (ds : List ℕ) → Good address s → Allowed v s → KeepsOut s (act address v s ds)
     unfolding act
-    act-keeps v s ds g w = after-then (list-keeps v s ds g w) (λ m rest k. tell-keeps (newsOf address v (s .own)) s (withMembers s m) rest (news-fit v s g w) k)
+    act-keeps v s ds g w = after-then (list-keeps v s ds g w) (λ m rest k. tell-keeps (newsOf address v (s .own)) s (withLists s m (rowAfter address v (s .members .table) (s .departed))) rest (news-fit v s g w) k)
 
     -- the address that a valid event is about is in range
     subject-valid : (f b : A) (n : ℕ) (e : Event A) → partsOf address e .subject ≡ b → eqb (partsOf address e .kind) 0 ≡ false → validGossip address (record { event = e }) ≡ true → address .valid b ≡ true

@@ -29,13 +29,13 @@ use Rattle.model.specs.Heap.{allBelow}
 use Rattle.laws.specs.Counts.{one-le}
 use Rattle.laws_list.specs.Distinct.{distinct-once}
 use Rattle.laws_list.specs.Picking.{Turned, pick-turned}
-use Rattle.laws_node.specs.Good.{Good, positioned-le}
+use Rattle.laws_node.specs.Good.{Good, GoodDeparted, positioned-le}
 use Rattle.laws_choose.specs.GoodHeap.{GoodHeap}
 use Rattle.laws_rules.specs.Keeps.{Keeps, KeepsOut, keeps-trans, same-node, with-members, more-keeps, gossip-keeps, admit-keeps, acked-keeps, spread-keeps, quiet-keeps, change-keeps, leave-keeps, with-timers, emit-keeps, suspicion-fits, death-fits}
 use Rattle.laws_rules.specs.Judged.{Fated, fated-leaves, fated-alive, fated-greater, fated-absent, fated}
 
 -- what holds of every element holds of the one at a place, and of those that are left without it
-every-in : {B : Type 0} (f : B → Bool) (d : B) (l : List B) (i : ℕ) → i < length l → every f l ≡ true → f (getD l i d) ≡ true
+pub every-in : {B : Type 0} (f : B → Bool) (d : B) (l : List B) (i : ℕ) → i < length l → every f l ≡ true → f (getD l i d) ≡ true
 every-in f d [] i h e = absurd (not-suc-le-zero h)
 every-in f d (x ∷ l) zero h e = and-split (f x) (every f l) e .0
 every-in f d (x ∷ l) (suc i) h e = every-in f d l i (le-of-suc-le-suc h) (and-split (f x) (every f l) e .1)
@@ -148,7 +148,7 @@ module _ {A : Type 0} (address : Address A) (lawful : Lawful address) where
   fate-keeps : (t : Timer A) (v : Fate) (s : Node A) (ds : List ℕ) → Good address s → address .valid (t .addr) ≡ true → Fated address t (s .members .table) v → KeepsOut address s (byFate address v t s ds)
   unfolding byFate
   fate-keeps t _ s ds g v (fated-leaves l a h) =
-      emit-keeps address kind.Deceased _ s _ ds (death-fits address (s .own) (t .addr) (t .number) (g .own) v) (leave-keeps address lawful (t .addr) s g l)
+      emit-keeps address kind.Deceased _ s _ ds (death-fits address (s .own) (t .addr) (t .number) (g .own) v) (leave-keeps address lawful (t .addr) (t .number) s g v l)
   fate-keeps t _ s ds g v (fated-alive l a) = quiet-keeps address lawful ds g
   fate-keeps t _ s ds g v (fated-greater l h) = quiet-keeps address lawful ds g
   fate-keeps t _ s ds g v (fated-absent l) = quiet-keeps address lawful ds g
@@ -187,6 +187,10 @@ module _ {A : Type 0} (address : Address A) (lawful : Lawful address) where
   no-news kind.Alive = record { few = omega arith; entries = refl; order = refl }
   no-news kind.Deceased = record { few = omega arith; entries = refl; order = refl }
 
+  -- and so is an empty row of the departed
+  nobody-gone : GoodDeparted address []
+  nobody-gone = record { few = omega arith; once = λ b. omega arith; valid = refl }
+
   -- a fresh node is good
   pub fresh-good : (settings : Settings) (own : A) (n : ℕ) → inRange settings ≡ true → address .valid own ≡ true → Good address (fresh settings own n)
   unfolding fresh
@@ -206,6 +210,7 @@ module _ {A : Type 0} (address : Address A) (lawful : Lawful address) where
         heaps = no-news;
         few = omega arith;
         timers = refl;
+        departed = nobody-gone;
       }
 
   -- the node of a restart
@@ -228,4 +233,5 @@ module _ {A : Type 0} (address : Address A) (lawful : Lawful address) where
         heaps = no-news;
         few = omega arith;
         timers = refl;
+        departed = nobody-gone;
       }

@@ -31,9 +31,11 @@ use Rattle.heap.specs.Views.{heapView, packHeap, Packed, view-length, pack-view
 use Rattle.disseminate.specs.declared.Disseminator.{Disseminator}
 use Rattle.disseminate.specs.Views.{ofKind, emitted, pushedTo, viewDisseminator, packDisseminator, both-back}
 use Rattle.disseminate.proofs.Pushing.{cleared-is, cleared-view, cleared-len, cleared-packed}
+use Rattle.departed.specs.declared.DepartedRow.{DepartedRow}
+use Rattle.departed.specs.Views.{departedView, packDeparted}
 use Rattle.rules.specs.Views.{collectsFor, listAfterOf}
 use Rattle.node.specs.declared.Node.{Node}
-use Rattle.node.specs.Views.{viewNode, packNode, withMembers, withDisseminator}
+use Rattle.node.specs.Views.{viewNode, packNode, withLists, withDisseminator}
 use Rattle.node.specs.Rows.{Ready}
 use Rattle.node.specs.Parts.{ready-is}
 use Rattle.message.specs.Views.{clearedFor, findsFull, fullFor, RoomFor, toldTo, saidBy}
@@ -80,8 +82,12 @@ module _ (n : Node) (r : Ready n) (v : handler.Verdict Addr) (draws : List ℕ) 
   abbrev whole : Answer (M.Out Addr)
   whole = handler.act here v (viewNode n) (drop used draws)
 
+  -- the row of the departed after it
+  abbrev pub gone-after : List (W.Departed Addr)
+  gone-after = handler.rowAfter here v (viewMembers (n .members) .table) (departedView (n .departed))
+
   abbrev telling : list.Members Addr → List ℕ → Answer (M.Out Addr)
-  telling m rest = handler.tell here news (M.withMembers (viewNode n) m) rest
+  telling m rest = handler.tell here news (M.withLists (viewNode n) m gone-after) rest
 
   list-first : (y : Answer (list.Members Addr)) → x ≡ y → whole ≡ andThen y telling
   unfolding handler.act viewNode
@@ -160,15 +166,15 @@ module _ (n : Node) (r : Ready n) (v : handler.Verdict Addr) (draws : List ℕ) 
     unfolding viewNode when
     act-full f =
         then-tells
-        ∙ tells news (M.withMembers (viewNode n) (listed .gave)) refl refl (listed .rest)
-        ∙ ap (λ (u : Bool). when u (refused (fullFor news)) (done (leaves (M.withMembers (viewNode n) (listed .gave)) news) (listed .rest))) f
+        ∙ tells news (M.withLists (viewNode n) (listed .gave) gone-after) refl refl (listed .rest)
+        ∙ ap (λ (u : Bool). when u (refused (fullFor news)) (done (leaves (M.withLists (viewNode n) (listed .gave) gone-after) news) (listed .rest))) f
 
     -- all is carried out
-    pub act-done : (a d : Heap) → a ≡ toldTo kind.Alive news (clearedFor (oldFor news) news living) → d ≡ toldTo kind.Deceased news (n .disseminator .deceased) → full news ≡ false
-        → Acted whole news (oldFor news) (withDisseminator (withMembers n (k .members)) (record { alive = a; deceased = d })) draws (used + more)
+    pub act-done : (p : DepartedRow) (a d : Heap) → p ≡ packDeparted gone-after → a ≡ toldTo kind.Alive news (clearedFor (oldFor news) news living) → d ≡ toldTo kind.Deceased news (n .disseminator .deceased) → full news ≡ false
+        → Acted whole news (oldFor news) (withDisseminator (withLists n (k .members) p) (record { alive = a; deceased = d })) draws (used + more)
     unfolding packNode viewNode when
-    act-done a d is-a is-d f =
-        let s = M.withMembers (viewNode n) (listed .gave) in
+    act-done p a d is-p is-a is-d f =
+        let s = M.withLists (viewNode n) (listed .gave) gone-after in
         let t = sym (ap (λ (y : Node). y .timers) (ready-is n r)) in
         record {
           out = leaves s news;
@@ -177,7 +183,7 @@ module _ (n : Node) (r : Ready n) (v : handler.Verdict Addr) (draws : List ℕ) 
               then-tells
               ∙ tells news s refl refl (listed .rest)
               ∙ ap (λ (u : Bool). when u (refused (fullFor news)) (done (leaves s news) (listed .rest))) f;
-          node = λ i. record { settings = n .settings; own = n .own; members = kept i; disseminator = (heaps a d is-a is-d) i; timers = t i };
+          node = λ i. record { settings = n .settings; own = n .own; members = kept i; disseminator = (heaps a d is-a is-d) i; timers = t i; departed = is-p i };
           said = refl;
           collected = refl;
           left = listed .next;

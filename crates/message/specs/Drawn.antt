@@ -10,7 +10,7 @@ use Rattle.laws.specs.After.{After, halts, gives, after-then}
 use Rattle.laws_list.specs.Draws.{Leaves, nothing, leaves-all, add-leaves}
 use Rattle.model.specs.Words.{Address, Gossip}
 use Rattle.model.specs.Members.{Members}
-use Rattle.model.specs.Node.{Node, Out, withMembers, andMore, quiet, pushed, emit}
+use Rattle.model.specs.Node.{Node, Out, andMore, quiet, pushed, emit}
 use Rattle.model.specs.Handler.{Verdict, Skip, Unknown, Equal, Low, AtEnd, Refute, Enter, Raise, Recover, Suspect, Bury, News, Silent, Emits, listAfter, newsOf, tell, act, item, gossip, admit}
 
 after-any : {B : Type 0} (x : Answer B) → After (λ _. Unit {0}) x
@@ -47,7 +47,7 @@ module _ {A : Type 0} (address : Address A) where
 
   pub act-few : (v : Verdict A) (s : Node A) (ds : List ℕ) → Few (act address v s ds)
   unfolding act
-  act-few v s ds = after-then (after-any (listAfter address v (s .members) ds)) (λ m rest _. tell-few (newsOf address v (s .own)) (withMembers s m) rest)
+  act-few v s ds = after-then (after-any (listAfter address v (s .members) ds)) (λ m rest _. tell-few (newsOf address v (s .own)) _ rest)
 
   pub admit-few : (a : A) (s : Node A) (ds : List ℕ) → Few (admit address a s ds)
   unfolding admit

@@ -20,7 +20,6 @@ use Rattle.model.specs.Sound.{validGossip}
 use Rattle.model.specs.Answers.{Answer, done, refused, andThen}
 use Rattle.address.specs.Here.{Addr, here, here-lawful}
 use Rattle.model.specs.Words as W
-use Rattle.model.specs.Choose.{death}
 use Rattle.model.specs.Node as M
 use Rattle.model.specs.Handler as handler
 use Rattle.laws_node.specs.Good.{Good}
@@ -82,7 +81,7 @@ quiet-more f m ds = prepend-nil (f m ds)
 module _ (sender : Option Addr) where
   -- the rule whose turn it is
   abbrev pub turn : List (W.Gossip Addr) → ℕ → Rule
-  turn gs i s ds = handler.act here (verdictAt (s .own) (s .members .table) (s .disseminator .deceased) gs sender i) s ds
+  turn gs i s ds = handler.act here (verdictAt (s .own) (s .members .table) (λ a. M.heldDeath here a s) gs sender i) s ds
 
   -- The rules of a message: its records in their order, and then its sender. What is left from a turn on
   abbrev pub ahead : List (W.Gossip Addr) → ℕ → Rule
@@ -91,7 +90,7 @@ module _ (sender : Option Addr) where
   ahead (g ∷ gs) (suc i) m ds = ahead gs i m ds
 
   sender-turn : (o : Option Addr) (m : M.Node Addr) (ds : List ℕ) → o ≡ sender → senderRule o m ds ≡ turn [] 0 m ds
-  unfolding verdictAt handler.admit handler.act handler.listAfter handler.newsOf
+  unfolding verdictAt handler.admit handler.act handler.listAfter handler.rowAfter handler.newsOf
   sender-turn none m ds e = rw (sym e)
   sender-turn (some a) m ds e = rw (sym e)
 
@@ -136,8 +135,8 @@ pub records-long : (rows : List Gossip) (given : ℕ) → Heeded rows given → 
 records-long rows given h = length-map (take given rows) toGossip ∙ length-take-le given rows (omega (arith, h .long, h .few))
 
 -- The verdict on a record, where D is read for a Joined alone; and on the sender behind them
-module _ (own : Addr) (t : List (W.Member Addr)) (dead : List (W.Entry Addr)) where
-  judged-by : (e : W.Event Addr) → handler.judge here own t (deathFor e dead) e ≡ handler.judge here own t (death here (W.partsOf here e .subject) dead) e
+module _ (own : Addr) (t : List (W.Member Addr)) (dead : Addr → Option ℕ) where
+  judged-by : (e : W.Event Addr) → handler.judge here own t (deathFor e dead) e ≡ handler.judge here own t (dead (W.partsOf here e .subject)) e
   unfolding W.partsOf
   judged-by W.Nothing = refl
   judged-by (W.Joined f a n) = refl

@@ -18,12 +18,15 @@ use Rattle.model.specs.Answers.{Answer, done, refused, fullOf}
 use Rattle.address.specs.Here.{Addr, here}
 use Rattle.model.specs.Words as W
 use Rattle.model.specs.Sound.{validGossip}
-use Rattle.model.specs.Choose.{death}
+use Rattle.model.specs.Departed.{deathOf}
 use Rattle.model.specs.Node as M
 use Rattle.model.specs.Handler as handler
 use Rattle.types.specs.declared.Gossip.{Gossip}
 use Rattle.types.specs.Views.{toGossip, fromEvent, fromGossip, noGossip}
 use Rattle.heap.specs.declared.Heap.{Heap}
+use Rattle.heap.specs.Views.{heapView}
+use Rattle.departed.specs.declared.DepartedRow.{DepartedRow}
+use Rattle.departed.specs.Views.{departedView}
 use Rattle.disseminate.specs.Views.{sameKind, ofKind, emitted, clearedBy}
 use Rattle.node.specs.declared.Node.{Node}
 use Rattle.node.specs.Views.{packNode}
@@ -48,20 +51,24 @@ abbrev pub senderRule : Option Addr → Rule
 senderRule none m ds = M.quiet m ds
 senderRule (some a) m ds = handler.admit here a m ds
 
+-- D of each address, by the setting, the row and the heap
+abbrev pub deathsOf : Bool → DepartedRow → Heap → Addr → Option ℕ
+deathsOf on r h a = deathOf here on a (departedView r) (heapView h)
+
 -- the verdict whose turn it is: on the records in their order, and then on the sender
-unfoldable pub verdictAt : Addr → List (W.Member Addr) → List (W.Entry Addr) → List (W.Gossip Addr) → Option Addr → ℕ → handler.Verdict Addr
+unfoldable pub verdictAt : Addr → List (W.Member Addr) → (Addr → Option ℕ) → List (W.Gossip Addr) → Option Addr → ℕ → handler.Verdict Addr
 verdictAt own t dead [] none i = handler.Skip
-verdictAt own t dead [] (some a) i = handler.judgeSender here t (death here a dead) a
-verdictAt own t dead (g ∷ gs) sender zero = handler.judge here own t (death here (W.partsOf here (g .event) .subject) dead) (g .event)
+verdictAt own t dead [] (some a) i = handler.judgeSender here t (dead a) a
+verdictAt own t dead (g ∷ gs) sender zero = handler.judge here own t (dead (W.partsOf here (g .event) .subject)) (g .event)
 verdictAt own t dead (g ∷ gs) sender (suc i) = verdictAt own t dead gs sender i
 
 -- D, for an event that is judged by it
-abbrev pub deathFor : W.Event Addr → List (W.Entry Addr) → Option ℕ
-deathFor W.Nothing h = none
-deathFor (W.Joined f a n) h = death here a h
-deathFor (W.Recovered f a n) h = none
-deathFor (W.Suspected f a n) h = none
-deathFor (W.Deceased f a n) h = none
+abbrev pub deathFor : W.Event Addr → (Addr → Option ℕ) → Option ℕ
+deathFor W.Nothing dead = none
+deathFor (W.Joined f a n) dead = dead a
+deathFor (W.Recovered f a n) dead = none
+deathFor (W.Suspected f a n) dead = none
+deathFor (W.Deceased f a n) dead = none
 
 -- the alive heap without what news outdates, as it came where that is nothing
 abbrev pub clearedFor : ℕ → handler.News Addr → Heap → Heap

@@ -1,5 +1,6 @@
 // The gossip records of a message and its sender, one after the other, and what they report.
 use address::Address;
+use departed::DepartedRow;
 use disseminate::Disseminator;
 use disseminate::Found;
 use disseminate::collect;
@@ -20,6 +21,8 @@ ghost use mathlib.Core.Bool.{true};
 ghost use Prim.Native.Nat.{_≤_, _<_};
 ghost use lib.ListN.{replicate};
 ghost use Rattle.address.specs.Here.{here};
+ghost use Rattle.model.specs.declared.Drew.the-variants.{Used};
+ghost use Rattle.model.specs.declared.Cause.the-variants.{Sender};
 ghost use Rattle.model.specs.Node as M;
 ghost use Rattle.model.specs.Handler as handler;
 ghost use Rattle.model.specs.Calls as calls;
@@ -27,10 +30,11 @@ ghost use Rattle.types.specs.Views.{toEvent, toOptional, noGossip};
 ghost use Rattle.heap.specs.Views.{heapView, Packed};
 ghost use Rattle.member.specs.Views.{viewMembers, Held};
 ghost use Rattle.disseminate.specs.Views.{fromFound};
-ghost use Rattle.node.specs.Views.{viewNode};
+ghost use Rattle.departed.specs.Views as gone;
+ghost use Rattle.node.specs.Views.{viewNode, withLists, withDisseminator};
 ghost use Rattle.node.specs.Rows.{Ready};
 ghost use Rattle.rules.specs.Views.{fromVerdict, toNews};
-ghost use Rattle.message.specs.Views.{recordsOf, Heeded, senderRule, verdictAt, deathFor, clearedFor, findsFull, RoomFor, toldTo, noted, fullFor, refusedHeard, heardOf};
+ghost use Rattle.message.specs.Views.{recordsOf, Heeded, senderRule, verdictAt, deathsOf, deathFor, clearedFor, findsFull, RoomFor, toldTo, noted, fullFor, refusedHeard, heardOf};
 
 // What a message brings: its records, and the sender if it is to come in.
 pub struct Lent {
@@ -66,31 +70,39 @@ pub fn no_events() -> [Gossip; Heard::EVENTS]
     [nothing; Heard::EVENTS]
 }
 
-// D of the address that joined. No other event is judged by it, so the heap is read for this one alone.
-fn death_of(deceased: Heap, event: Event) -> Found
-    requires { ⌜ Packed deceased ⌝ }
-    ensures { λ r. ⌜ r ≡ fromFound (deathFor (toEvent event) (heapView deceased)) ⌝ }
+// D of the address that joined. No other event is judged by it, so row and heap are read for this one alone.
+fn death_of(on: bool, departed: DepartedRow, deceased: Heap, event: Event) -> Found
+    requires { ⌜ gone.Packed departed × Packed deceased ⌝ }
+    ensures { λ r. ⌜ r ≡ fromFound (deathFor (toEvent event) (deathsOf on departed deceased)) ⌝ }
 {
     match event {
         Event::Joined {
             from: _,
             subject,
             number: _,
-        } => disseminate::is_deceased(deceased, subject),
+        } => departed::death_of(on, departed, deceased, subject),
         _ => Found::Missing,
     }
 }
 
 // The verdict whose turn it is: on the records in their order, and behind them on the sender.
-fn verdict_at(members: Members, own: Address, deceased: Heap, lent: Lent, i: usize) -> Verdict
-    requires { ⌜ Held members × Packed deceased × Heeded (lent .rows) (lent .given) ⌝ }
-    ensures { λ r. ⌜ r ≡ fromVerdict (verdictAt own (viewMembers members .table) (heapView deceased) (recordsOf (lent .rows) (lent .given)) (toOptional (lent .sender)) i) ⌝ }
+fn verdict_at(
+    members: Members,
+    own: Address,
+    on: bool,
+    departed: DepartedRow,
+    deceased: Heap,
+    lent: Lent,
+    i: usize,
+) -> Verdict
+    requires { ⌜ Held members × gone.Packed departed × Packed deceased × Heeded (lent .rows) (lent .given) ⌝ }
+    ensures { λ r. ⌜ r ≡ fromVerdict (verdictAt own (viewMembers members .table) (deathsOf on departed deceased) (recordsOf (lent .rows) (lent .given)) (toOptional (lent .sender)) i) ⌝ }
 {
     if i < lent.given {
         let rows = lent.rows;
         let g = rows[i];
         let event = g.event;
-        return rules::judge(members, own, death_of(deceased, event), event);
+        return rules::judge(members, own, death_of(on, departed, deceased, event), event);
     }
     let sender = lent.sender;
     match sender {
@@ -99,7 +111,7 @@ fn verdict_at(members: Members, own: Address, deceased: Heap, lent: Lent, i: usi
             if members.lists(a) {
                 return Verdict::Skip;
             }
-            let dead = disseminate::is_deceased(deceased, a);
+            let dead = departed::death_of(on, departed, deceased, a);
             rules::judge_sender(members, dead, a)
         },
     }
@@ -196,6 +208,38 @@ fn refused(node: Node, refusal: Refusal, at: Cause) -> Heard
     }
 }
 
+// All were heard: the node with its list, the departed and the heaps after them, and what they reported.
+fn all_heard(
+    node: Node,
+    members: Members,
+    departed: DepartedRow,
+    disseminator: Disseminator,
+    report: Report,
+    used: usize,
+) -> Heard
+    ensures { λ r. ⌜ r ≡ record { node = withDisseminator (withLists node members departed) disseminator; events = report .events; reported = report .count; collected = report .collected; drew = Used used; at = Sender } ⌝ }
+{
+    let settings = node.settings;
+    let own = node.own;
+    let timers = node.timers;
+    let events = report.events;
+    Heard {
+        node: Node {
+            settings,
+            own,
+            members,
+            disseminator,
+            timers,
+            departed,
+        },
+        events,
+        reported: report.count,
+        collected: report.collected,
+        drew: Drew::Used(used),
+        at: Cause::Sender,
+    }
+}
+
 // Whose turn it is: a record's, or behind them the sender's.
 fn cause_at(i: usize, given: usize) -> Cause
     ensures { λ r. ⌜ r ≡ handler.causeAt i given ⌝ }
@@ -224,15 +268,18 @@ pub fn handle_gossip(node: Node, lent: Lent, draws: &[u64]) -> Heard
     requires { ⌜ Ready node × Heeded (lent .rows) (lent .given) × (calls.validOption here (toOptional (lent .sender)) ≡ true) ⌝ }
     ensures { λ r. ⌜ r ≡ heardOf node (now (draws .entry)) (handler.stopsAt here (recordsOf (lent .rows) (lent .given)) (viewNode node) (now (draws .entry))) (M.andMore (handler.gossip here (recordsOf (lent .rows) (lent .given)) (viewNode node) (now (draws .entry))) (senderRule (toOptional (lent .sender)))) ⌝ }
 {
+    let own = node.own;
+    let on = node.settings.remember;
     let mut members = node.members;
+    let mut departed = node.departed;
     let mut alive = node.disseminator.alive;
     let mut deceased = node.disseminator.deceased;
     let mut report = no_report();
     let mut used = 0;
     let mut i = 0;
     while i <= lent.given {
-        let verdict = verdict_at(members, node.own, deceased, lent, i);
-        let kept = rules::list_after(members, node.own, verdict, draws, used);
+        let verdict = verdict_at(members, own, on, departed, deceased, lent, i);
+        let kept = rules::list_after(members, own, verdict, draws, used);
         let drew = kept.drew;
         match drew {
             Drew::Used(more) => used += more,
@@ -240,33 +287,18 @@ pub fn handle_gossip(node: Node, lent: Lent, draws: &[u64]) -> Heard
                 return refused(node, refusal, cause_at(i, lent.given));
             }
         }
-        let news = rules::news_of(verdict, node.own);
+        let news = rules::news_of(verdict, own);
         let old = rules::old_news(node.settings.collect, alive, news);
         if finds_full(news, alive.len - old, deceased.len) {
             return refused(node, full_heap(news), cause_at(i, lent.given));
         }
+        departed = rules::row_after(departed, members, verdict);
         members = kept.members;
         alive = tell(clear(alive, old, news), Kind::Alive, news);
         deceased = tell(deceased, Kind::Deceased, news);
         report = note(report, news, old);
         i += 1;
     }
-    let settings = node.settings;
-    let own = node.own;
-    let timers = node.timers;
-    let events = report.events;
-    Heard {
-        node: Node {
-            settings,
-            own,
-            members,
-            disseminator: Disseminator { alive, deceased },
-            timers,
-        },
-        events,
-        reported: report.count,
-        collected: report.collected,
-        drew: Drew::Used(used),
-        at: Cause::Sender,
-    }
+    let disseminator = Disseminator { alive, deceased };
+    all_heard(node, members, departed, disseminator, report, used)
 }

@@ -14,6 +14,10 @@ heap-places = 128
 abbrev pub timer-places : ℕ
 timer-places = 16
 
+-- "a row of 128 departed addresses"
+abbrev pub departed-places : ℕ
+departed-places = 128
+
 -- "A message has at most 64 gossip records."
 abbrev pub message-records : ℕ
 message-records = 64

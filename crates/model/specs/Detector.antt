@@ -142,7 +142,7 @@ module _ {A : Type 0} (address : Address A) where
 
   -- "Deceased emitted at its number"; "otherwise the timer ends .. and emits nothing"
   unfoldable pub byFate : Fate → Timer A → Node A → List ℕ → Answer (Out A)
-  byFate Leaves t s ds = emit address kind.Deceased (record { event = Deceased (s .own) (t .addr) (t .number) }) (leave address (t .addr) s) ds
+  byFate Leaves t s ds = emit address kind.Deceased (record { event = Deceased (s .own) (t .addr) (t .number) }) (leave address (t .addr) (t .number) s) ds
   byFate Stays t s ds = quiet s ds
   byFate Absent t s ds = quiet s ds
 

@@ -15,9 +15,10 @@ use Rattle.model.specs.declared.Cause.{Cause}
 use Rattle.model.specs.declared.Cause.the-variants.{Record, Sender}
 use Rattle.model.specs.Rows.{pick}
 use Rattle.model.specs.Answers.{Answer, done, refused, andThen}
-use Rattle.model.specs.Words.{Address, isAlive, Member, Event, Nothing, Joined, Recovered, Suspected, Deceased, Gossip, Action, Ping, PingReq, Ack, partsOf}
+use Rattle.model.specs.Words.{Address, isAlive, Member, Departed, Event, Nothing, Joined, Recovered, Suspected, Deceased, Gossip, Action, Ping, PingReq, Ack, partsOf}
 use Rattle.model.specs.Members as list
-use Rattle.model.specs.Node.{Node, Out, Effect, withMembers, quiet, plusOne, deathPlusOne, andMore, emit, lists, numbered, heldDeath, change, spread}
+use Rattle.model.specs.Departed.{departs}
+use Rattle.model.specs.Node.{Node, Out, Effect, withLists, quiet, plusOne, deathPlusOne, andMore, emit, lists, numbered, heldDeath, change, spread}
 
 -- What an event comes to. Nothing happens: there is none, the address is unknown, its number is equal to the held one of a peer that isn't Alive, or it is not
 -- high enough. Or a number plus one is needed and there is none. Or the own address refutes a suspicion; an address comes in; a listed one is raised, recovers, is suspected or dies
@@ -108,6 +109,20 @@ module _ {A : Type 0} (address : Address A) where
   listAfter (Suspect a n) m ds = done (list.update (address .same) (record { addr = a; state = state.Suspected; number = n }) m) ds
   listAfter (Bury a n) m ds = done (list.remove (address .same) a m) ds
 
+  -- the row of the departed after a verdict: one that is buried comes into it
+  unfoldable pub rowAfter : Verdict A → List (Member A) → List (Departed A) → List (Departed A)
+  rowAfter Skip t r = r
+  rowAfter Unknown t r = r
+  rowAfter Equal t r = r
+  rowAfter Low t r = r
+  rowAfter AtEnd t r = r
+  rowAfter (Refute n) t r = r
+  rowAfter (Enter a n) t r = r
+  rowAfter (Raise a n) t r = r
+  rowAfter (Recover a n) t r = r
+  rowAfter (Suspect a n) t r = r
+  rowAfter (Bury a n) t r = departs (address .same) a n t r
+
   -- "A change emits Joined.", "Emitted events name this node as from."
   unfoldable pub newsOf : Verdict A → A → News A
   newsOf Skip own = Silent
@@ -129,7 +144,7 @@ module _ {A : Type 0} (address : Address A) where
 
   -- a verdict is carried out: "Within one gossip item or ping admission: 6, 7, 8, 9", and 13 in 9's place
   unfoldable pub act : Verdict A → Node A → List ℕ → Answer (Out A)
-  act v s ds = andThen (listAfter v (s .members) ds) λ m rest. tell (newsOf v (s .own)) (withMembers s m) rest
+  act v s ds = andThen (listAfter v (s .members) ds) λ m rest. tell (newsOf v (s .own)) (withLists s m (rowAfter v (s .members .table) (s .departed))) rest
 
   -- one gossip record
   unfoldable pub item : Event A → Node A → List ℕ → Answer (Out A)

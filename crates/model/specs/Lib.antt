@@ -1,5 +1,5 @@
 -- What must be believed, and nothing else: the scope's rules, for any type of address, in its order:
--- numbers, refusals, sizes, heap, choosing, collecting, list and order, lamps, handler, detector, soundness, calls.
+-- numbers, refusals, sizes, heap, choosing, collecting, list and order, the departed, lamps, handler, detector, soundness, calls.
 pub mod Rows
 pub mod Bounds
 pub mod Answers
@@ -10,6 +10,7 @@ pub mod Heap
 pub mod Choose
 pub mod Collect
 pub mod Members
+pub mod Departed
 pub mod Lamps
 pub mod Node
 pub mod Handler

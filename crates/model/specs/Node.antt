@@ -1,4 +1,4 @@
--- A node: its settings, its own address, the list, the disseminator with its two heaps, and the timers. And what a rule leaves.
+-- A node: its settings, its own address, the list, the disseminator with its two heaps, the timers and the departed. And what a rule leaves.
 -- Assumes nothing.
 use mathlib.Core.Bool.{Bool}
 use mathlib.Core.List.{List, [], _∷_, _++_}
@@ -13,14 +13,15 @@ use Rattle.model.specs.declared.Lamps.{Lamps}
 use Rattle.model.specs.declared.Kind.{Kind}
 use Rattle.model.specs.declared.Kind.the-variants as kind
 use Rattle.model.specs.Rows.{pick, padTo}
-use Rattle.model.specs.Bounds.{list-places, heap-places, timer-places, last-number}
+use Rattle.model.specs.Bounds.{list-places, heap-places, timer-places, departed-places, last-number}
 use Rattle.model.specs.Answers.{Answer, done, refused, andThen, when, fullOf}
-use Rattle.model.specs.Words.{Address, Gossip, Entry, unused, sendsOf, Timer, Member, Message, noMember, noTimer}
+use Rattle.model.specs.Words.{Address, Gossip, Entry, unused, sendsOf, Timer, Member, Departed, Message, noMember, noTimer, noDeparted}
 use Rattle.model.specs.Limit.{limitOf}
 use Rattle.model.specs.Heap.{push}
-use Rattle.model.specs.Choose.{choose, termsOf, entryOf, death}
+use Rattle.model.specs.Choose.{choose, termsOf, entryOf}
 use Rattle.model.specs.Collect.{collects, cleared}
 use Rattle.model.specs.Members as list
+use Rattle.model.specs.Departed.{departs, deathOf}
 use Rattle.model.specs.Lamps.{lampsOf}
 
 -- what is to be spread: the heap of the living and the heap of deaths
@@ -42,6 +43,7 @@ pub record Node (A : Type 0) : Type 0 where
   pub members : list.Members A
   pub disseminator : Disseminator A
   pub timers : List (Timer A)
+  pub departed : List (Departed A)
 
 -- what a rule leaves: the node, the events that it reported, each as the gossip record that holds it, and how many held ones were collected
 pub record Out (A : Type 0) : Type 0 where
@@ -72,13 +74,17 @@ deathPlusOne (some d) = plusOne d
 
 module _ {A : Type 0} where
   abbrev pub withMembers : Node A → list.Members A → Node A
-  withMembers s m = record { settings = s .settings; own = s .own; members = m; disseminator = s .disseminator; timers = s .timers }
+  withMembers s m = record { settings = s .settings; own = s .own; members = m; disseminator = s .disseminator; timers = s .timers; departed = s .departed }
 
   abbrev pub withDisseminator : Node A → Disseminator A → Node A
-  withDisseminator s d = record { settings = s .settings; own = s .own; members = s .members; disseminator = d; timers = s .timers }
+  withDisseminator s d = record { settings = s .settings; own = s .own; members = s .members; disseminator = d; timers = s .timers; departed = s .departed }
 
   abbrev pub withTimers : Node A → List (Timer A) → Node A
-  withTimers s timers = record { settings = s .settings; own = s .own; members = s .members; disseminator = s .disseminator; timers = timers }
+  withTimers s timers = record { settings = s .settings; own = s .own; members = s .members; disseminator = s .disseminator; timers = timers; departed = s .departed }
+
+  -- the list and the row beside it
+  abbrev pub withLists : Node A → list.Members A → List (Departed A) → Node A
+  withLists s m r = record { settings = s .settings; own = s .own; members = m; disseminator = s .disseminator; timers = s .timers; departed = r }
 
   -- nothing is reported
   unfoldable pub quiet : Node A → List ℕ → Answer (Out A)
@@ -125,14 +131,15 @@ module _ {A : Type 0} (address : Address A) where
 
   -- D of an address
   abbrev pub heldDeath : A → Node A → Option ℕ
-  heldDeath a s = death address a (s .disseminator .deceased)
+  heldDeath a s = deathOf address (s .settings .remember) a (s .departed) (s .disseminator .deceased)
 
   -- the record of a listed address is replaced
   unfoldable pub change : A → State → ℕ → Node A → Node A
   change a st n s = withMembers s (list.update (address .same) (record { addr = a; state = st; number = n }) (s .members))
 
-  unfoldable pub leave : A → Node A → Node A
-  leave a s = withMembers s (list.remove (address .same) a (s .members))
+  -- an address leaves the list by a remover's number, and is remembered
+  unfoldable pub leave : A → ℕ → Node A → Node A
+  leave a n s = withLists s (list.remove (address .same) a (s .members)) (departs (address .same) a n (s .members .table) (s .departed))
 
   -- gossip is chosen for a message, at as many members as are listed
   unfoldable pub spread : Node A → Spread A
@@ -159,6 +166,7 @@ pub record Stored (A : Type 0) : Type 0 where
   pub alive : Row (Entry A)
   pub deceased : Row (Entry A)
   pub timers : Row (Timer A)
+  pub departed : Row (Departed A)
 
 abbrev pub inUse : {B : Type 0} → Row B → List B
 inUse r = take (r .used) (r .places)
@@ -175,6 +183,7 @@ loaded s =
       members = record { table = take (s .listed) (s .table); order = take (s .listed) (s .order); position = s .position };
       disseminator = record { alive = inUse (s .alive); deceased = inUse (s .deceased) };
       timers = inUse (s .timers);
+      departed = inUse (s .departed);
     }
 
 -- the rows that hold a node: every unused place is zero, and the counts are true
@@ -191,9 +200,10 @@ stored address s =
       alive = rowOf heap-places unused (s .disseminator .alive);
       deceased = rowOf heap-places unused (s .disseminator .deceased);
       timers = rowOf timer-places (noTimer address) (s .timers);
+      departed = rowOf departed-places (noDeparted address) (s .departed);
     }
 
--- "a node with empty heaps, no timers .. and settings given anew": of an own address, the records of a list in probing order, and its position
+-- "a node with empty heaps, no timers .. and settings given anew", and nobody is remembered: of an own address, the records of a list in probing order, and its position
 abbrev pub restarted : {A : Type 0} → Settings → A → List (Member A) → ℕ → Node A
 restarted settings own rows position =
     record {
@@ -202,6 +212,7 @@ restarted settings own rows position =
       members = record { table = rows; order = list.addrs rows; position = position };
       disseminator = record { alive = []; deceased = [] };
       timers = [];
+      departed = [];
     }
 
 -- "it lists that address Alive at place 0, all else empty"
@@ -213,4 +224,5 @@ fresh settings own n =
       members = record { table = record { addr = own; state = Alive; number = n } ∷ []; order = own ∷ []; position = 0 };
       disseminator = record { alive = []; deceased = [] };
       timers = [];
+      departed = [];
     }

@@ -10,11 +10,12 @@ use Rattle.model.specs.declared.Lamps.{Lamps}
 use Rattle.model.specs.declared.Kind.{Kind}
 use Rattle.model.specs.declared.Kind.the-variants as kind
 use Rattle.model.specs.Rows.{pick, every, isEmpty, has, erase}
-use Rattle.model.specs.Bounds.{list-places, heap-places, timer-places, most-sends, wait-end, most-group, most-constant, most-selected, least-size, greatest-size}
-use Rattle.model.specs.Words.{Address, isAlive, partsOf, Gossip, Entry, unused, sendsOf, Member, Timer}
+use Rattle.model.specs.Bounds.{list-places, heap-places, timer-places, departed-places, most-sends, wait-end, most-group, most-constant, most-selected, least-size, greatest-size}
+use Rattle.model.specs.Words.{Address, isAlive, partsOf, Gossip, Entry, unused, sendsOf, Member, Timer, Departed}
 use Rattle.model.specs.Size.{sizeOf}
 use Rattle.model.specs.Heap.{inOrder}
 use Rattle.model.specs.Members.{addrs}
+use Rattle.model.specs.Departed.{gone}
 use Rattle.model.specs.Lamps.{lampsOf, sameLamps}
 use Rattle.model.specs.Node.{Row, Stored, inUse}
 
@@ -106,6 +107,17 @@ module _ {A : Type 0} (address : Address A) where
       && every (λ t. address .valid (t .addr)) (inUse r)
       && every isNoTimer (drop (r .used) (r .places))
 
+  abbrev pub isNoDeparted : Departed A → Bool
+  isNoDeparted d = address .same (d .addr) (address .blank) && eqb (d .number) 0
+
+  -- "in a sound node its addresses are distinct", in range, and every unused place is zero; the order by time "isn't checked"
+  unfoldable pub soundDeparted : Row (Departed A) → Bool
+  soundDeparted r =
+      leb (r .used) departed-places
+      && distinct (address .same) (gone (inUse r))
+      && every (address .valid) (gone (inUse r))
+      && every isNoDeparted (drop (r .used) (r .places))
+
   -- "Sound": the handed node passes every clause
   unfoldable pub sound : Stored A → Bool
   sound s =
@@ -115,3 +127,4 @@ module _ {A : Type 0} (address : Address A) where
       && soundHeap kind.Alive (s .alive)
       && soundHeap kind.Deceased (s .deceased)
       && soundTimers (s .timers)
+      && soundDeparted (s .departed)

@@ -53,6 +53,11 @@ module _ (A : Type 0) where
     pub number : ℕ
     pub since : ℕ
 
+  -- a departed address, and the greatest number seen at its removals
+  pub record Departed : Type 0 where
+    pub addr : A
+    pub number : ℕ
+
   -- "The wait record, state and tick of entry"
   pub data WaitState : Type 0 where
     SendingPing : WaitState
@@ -95,6 +100,9 @@ module _ {A : Type 0} (address : Address A) where
 
   abbrev pub noTimer : Timer A
   noTimer = record { addr = address .blank; number = 0; since = 0 }
+
+  abbrev pub noDeparted : Departed A
+  noDeparted = record { addr = address .blank; number = 0 }
 
   -- an event by its parts: its kind, 0 for none, and what it holds; of no event each part is that of an unused place
   unfoldable pub partsOf : Event A → Parts A

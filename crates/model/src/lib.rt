@@ -159,6 +159,8 @@ pub struct Settings {
     pub max_size: usize,
     // Is old news taken from the alive heap before newer is pushed?
     pub collect: bool,
+    // Is D taken from the row of the departed where it has the address?
+    pub remember: bool,
 }
 
 // The ranges of the settings: waits end below, the others at the number itself.

@@ -16,13 +16,16 @@ use Rattle.member.specs.Views.{packMembers, viewMembers}
 use Rattle.member.specs.Packing as packing
 use Rattle.timers.specs.declared.Timers.{Timers}
 use Rattle.timers.specs.Views.{toTimer, fromTimer, noTimer, packTimers, timersView}
+use Rattle.departed.specs.declared.DepartedRow.{DepartedRow}
+use Rattle.departed.specs.Views.{packDeparted, departedView}
+use Rattle.departed.specs.Packing.{pack-back}
 use Rattle.laws.specs.Packing as rows
 use Rattle.disseminate.specs.declared.Disseminator.{Disseminator}
 use Rattle.disseminate.specs.declared.Choice.{Choice}
 use Rattle.disseminate.specs.Views.{packChoice, viewDisseminator, packDisseminator, both-back}
 use Rattle.node.specs.declared.Node.{Node}
 use Rattle.node.specs.declared.parts.Spread.{Spread}
-use Rattle.node.specs.Views.{viewNode, packNode, withMembers, withDisseminator, withTimers, spreadOf}
+use Rattle.node.specs.Views.{viewNode, packNode, withMembers, withDisseminator, withTimers, withLists, spreadOf}
 use Rattle.node.specs.Rows.{Ready}
 
 none-chosen : (t : choosing.Terms) (a d : List (W.Entry Addr)) → a ≡ [] → d ≡ [] → choosing.choose here t a d ≡ choosing.begin here a d
@@ -44,6 +47,9 @@ module _ (n : Node) (r : Ready n) where
       let l = rows.view-length toTimer fromTimer (λ b. refl) 16 noTimer (n .timers .entries) (n .timers .len) (r .timers) in
       λ i. record { entries = e i; len = l i }
 
+  departed-back : packDeparted (departedView (n .departed)) ≡ n .departed
+  departed-back = pack-back (n .departed) (r .departed)
+
   -- a ready node is the packed node that it holds
   pub ready-is : packNode (viewNode n) ≡ n
   unfolding packNode viewNode
@@ -54,6 +60,7 @@ module _ (n : Node) (r : Ready n) where
         members = members-back i;
         disseminator = disseminator-back i;
         timers = timers-back i;
+        departed = departed-back i;
       }
 
   pub part-members : (l : list.Members Addr) (m : Members) → m ≡ packMembers (n .own) l → withMembers n m ≡ packNode (M.withMembers (viewNode n) l)
@@ -65,6 +72,21 @@ module _ (n : Node) (r : Ready n) where
         members = e i;
         disseminator = sym disseminator-back i;
         timers = sym timers-back i;
+        departed = sym departed-back i;
+      }
+
+  -- the list and the row beside it
+  pub part-lists : (l : list.Members Addr) (d : List (W.Departed Addr)) (m : Members) (x : DepartedRow) → m ≡ packMembers (n .own) l → x ≡ packDeparted d
+      → withLists n m x ≡ packNode (M.withLists (viewNode n) l d)
+  unfolding packNode viewNode
+  part-lists l d m x e f =
+      λ i. record {
+        settings = n .settings;
+        own = n .own;
+        members = e i;
+        disseminator = sym disseminator-back i;
+        timers = sym timers-back i;
+        departed = f i;
       }
 
   pub part-disseminator : (d : M.Disseminator Addr) (x : Disseminator) → x ≡ packDisseminator d → withDisseminator n x ≡ packNode (M.withDisseminator (viewNode n) d)
@@ -76,6 +98,7 @@ module _ (n : Node) (r : Ready n) where
         members = sym members-back i;
         disseminator = e i;
         timers = sym timers-back i;
+        departed = sym departed-back i;
       }
 
   pub part-timers : (l : List (W.Timer Addr)) (t : Timers) → t ≡ packTimers l → withTimers n t ≡ packNode (M.withTimers (viewNode n) l)
@@ -87,6 +110,7 @@ module _ (n : Node) (r : Ready n) where
         members = sym members-back i;
         disseminator = sym disseminator-back i;
         timers = e i;
+        departed = sym departed-back i;
       }
 
   -- gossip was chosen

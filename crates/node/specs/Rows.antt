@@ -25,6 +25,9 @@ use Rattle.laws.specs.Packing as rows
 use Rattle.timers.specs.declared.Timer.{Timer}
 use Rattle.timers.specs.Views.{toTimer, fromTimer, noTimer}
 use Rattle.timers.specs.Views as timers
+use Rattle.departed.specs.declared.Departed.{Departed}
+use Rattle.departed.specs.Views.{toDeparted, fromDeparted, noDeparted}
+use Rattle.departed.specs.Views as departed
 use Rattle.node.specs.declared.Node.{Node}
 use Rattle.node.specs.Views.{viewNode, packNode, storedView, unstored}
 
@@ -60,12 +63,14 @@ unstored-stored n =
     let a : map fromEntry (map toEntry (n .disseminator .alive .entries)) ≡ n .disseminator .alive .entries = heaps.from-to-entries (n .disseminator .alive .entries) in
     let d : map fromEntry (map toEntry (n .disseminator .deceased .entries)) ≡ n .disseminator .deceased .entries = heaps.from-to-entries (n .disseminator .deceased .entries) in
     let m : map fromTimer (map toTimer (n .timers .entries)) ≡ n .timers .entries = map-map fromTimer toTimer (n .timers .entries) ∙ map-id (λ (x : Timer). fromTimer (toTimer x)) (λ b. refl) (n .timers .entries) in
+    let e : map fromDeparted (map toDeparted (n .departed .entries)) ≡ n .departed .entries = map-map fromDeparted toDeparted (n .departed .entries) ∙ map-id (λ (x : Departed). fromDeparted (toDeparted x)) (λ b. refl) (n .departed .entries) in
     λ i. record {
       settings = n .settings;
       own = n .own;
       members = record { table = t i; len = n .members .len; order = n .members .order; lamps = n .members .lamps };
       disseminator = record { alive = record { entries = a i; len = n .disseminator .alive .len }; deceased = record { entries = d i; len = n .disseminator .deceased .len } };
       timers = record { entries = m i; len = n .timers .len };
+      departed = record { entries = e i; len = n .departed .len };
     }
 
 -- the rows of a node of lists
@@ -76,12 +81,14 @@ unstored-pack s =
     let a = map-pad fromEntry 128 W.unused (s .disseminator .alive) in
     let d = map-pad fromEntry 128 W.unused (s .disseminator .deceased) in
     let m = map-pad fromTimer 16 (W.noTimer here) (s .timers) in
+    let e = map-pad fromDeparted 128 (W.noDeparted here) (s .departed) in
     λ i. record {
       settings = s .settings;
       own = s .own;
       members = record { table = t i; len = length (s .members .table); order = record { row = padTo 64 (here .blank) (s .members .order); position = s .members .position }; lamps = lampsOf (here .same) (s .own) (s .members .table) };
       disseminator = record { alive = record { entries = a i; len = length (s .disseminator .alive) }; deceased = record { entries = d i; len = length (s .disseminator .deceased) } };
       timers = record { entries = m i; len = length (s .timers) };
+      departed = record { entries = e i; len = length (s .departed) };
     }
 
 -- what the rows hold
@@ -92,12 +99,14 @@ loaded-view n =
     let a = take-map toEntry (n .disseminator .alive .len) (n .disseminator .alive .entries) in
     let d = take-map toEntry (n .disseminator .deceased .len) (n .disseminator .deceased .entries) in
     let m = take-map toTimer (n .timers .len) (n .timers .entries) in
+    let e = take-map toDeparted (n .departed .len) (n .departed .entries) in
     λ i. record {
       settings = n .settings;
       own = n .own;
       members = record { table = t i; order = take (n .members .len) (n .members .order .row); position = n .members .order .position };
       disseminator = record { alive = a i; deceased = d i };
       timers = m i;
+      departed = e i;
     }
 
 -- what a test that was passed says of a node: it is good, and each part is as its functions ask
@@ -107,6 +116,7 @@ pub record Ready (n : Node) : Type 0 where
   pub lamps : Counted (n .own) (n .members)
   pub heaps : PackedHeaps (n .disseminator)
   pub timers : timers.Packed (n .timers)
+  pub departed : departed.Packed (n .departed)
 
 -- what is packed is read back
 pub view-pack : (s : M.Node Addr) → Whole (here .same) (s .members) → viewNode (packNode s) ≡ s
@@ -116,7 +126,8 @@ view-pack s w =
     let a = heaps.view-pack (s .disseminator .alive) in
     let d = heaps.view-pack (s .disseminator .deceased) in
     let m = rows.view-pack toTimer fromTimer (λ x. refl) 16 noTimer (s .timers) in
-    λ i. record { settings = s .settings; own = s .own; members = t i; disseminator = record { alive = a i; deceased = d i }; timers = m i }
+    let e = rows.view-pack toDeparted fromDeparted (λ x. refl) 128 noDeparted (s .departed) in
+    λ i. record { settings = s .settings; own = s .own; members = t i; disseminator = record { alive = a i; deceased = d i }; timers = m i; departed = e i }
 
 -- a good node's rows are ready
 pub ready-pack : (s : M.Node Addr) → Good here s → Ready (packNode s)
@@ -128,19 +139,21 @@ ready-pack s g =
       lamps = packing.counted-pack (s .own) (s .members) (g .whole .long);
       heaps = record { alive = heaps.packed-pack (s .disseminator .alive) (g .heaps kind.Alive .few); deceased = heaps.packed-pack (s .disseminator .deceased) (g .heaps kind.Deceased .few) };
       timers = rows.packed-pack toTimer fromTimer 16 noTimer (s .timers) (g .few);
+      departed = rows.packed-pack toDeparted fromDeparted 128 noDeparted (s .departed) (g .departed .few);
     }
 
 -- arrays have their lengths, so the rows are full
-pub full-rows : (n : Node) → length (n .members .table) ≡ 64 → length (n .members .order .row) ≡ 64 → length (n .disseminator .alive .entries) ≡ 128 → length (n .disseminator .deceased .entries) ≡ 128 → length (n .timers .entries) ≡ 16
+pub full-rows : (n : Node) → length (n .members .table) ≡ 64 → length (n .members .order .row) ≡ 64 → length (n .disseminator .alive .entries) ≡ 128 → length (n .disseminator .deceased .entries) ≡ 128 → length (n .timers .entries) ≡ 16 → length (n .departed .entries) ≡ 128
     → FullRows (storedView n)
 unfolding storedView
-full-rows n a b c d e =
+full-rows n a b c d e f =
     record {
       table = length-map (n .members .table) toMember ∙ a;
       order = b;
       alive = length-map (n .disseminator .alive .entries) toEntry ∙ c;
       deceased = length-map (n .disseminator .deceased .entries) toEntry ∙ d;
       timers = length-map (n .timers .entries) toTimer ∙ e;
+      departed = length-map (n .departed .entries) toDeparted ∙ f;
     }
 
 -- a node that passes the test is ready, and it is the packed node that it holds

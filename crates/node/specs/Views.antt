@@ -24,6 +24,8 @@ use Rattle.member.specs.declared.Members.{Members}
 use Rattle.member.specs.Views.{toMember, fromMember, viewMembers, packMembers}
 use Rattle.timers.specs.declared.Timers.{Timers}
 use Rattle.timers.specs.Views.{fromTimer, timersView, packTimers, rowView}
+use Rattle.departed.specs.declared.DepartedRow.{DepartedRow}
+use Rattle.departed.specs.Views.{fromDeparted, departedView, packDeparted, rowView as departedRow}
 use Rattle.node.specs.declared.Node.{Node}
 use Rattle.node.specs.declared.Letter.{Letter}
 use Rattle.node.specs.declared.Answer.{Answer}
@@ -38,6 +40,7 @@ viewNode n =
       members = viewMembers (n .members);
       disseminator = viewDisseminator (n .disseminator);
       timers = timersView (n .timers);
+      departed = departedView (n .departed);
     }
 
 unfoldable pub packNode : M.Node Addr → Node
@@ -48,6 +51,7 @@ packNode s =
       members = packMembers (s .own) (s .members);
       disseminator = packDisseminator (s .disseminator);
       timers = packTimers (s .timers);
+      departed = packDeparted (s .departed);
     }
 
 -- the heap of a row
@@ -56,6 +60,9 @@ rowHeap r = record { entries = map fromEntry (r .places); len = r .used }
 
 abbrev pub rowTimers : M.Row (W.Timer Addr) → Timers
 rowTimers r = record { entries = map fromTimer (r .places); len = r .used }
+
+abbrev pub rowDeparted : M.Row (W.Departed Addr) → DepartedRow
+rowDeparted r = record { entries = map fromDeparted (r .places); len = r .used }
 
 -- the rows as the model keeps them, used places and unused ones; and back
 unfoldable pub storedView : Node → M.Stored Addr
@@ -71,6 +78,7 @@ storedView n =
       alive = heapRow (n .disseminator .alive);
       deceased = heapRow (n .disseminator .deceased);
       timers = rowView (n .timers);
+      departed = departedRow (n .departed);
     }
 
 unfoldable pub unstored : M.Stored Addr → Node
@@ -81,17 +89,22 @@ unstored s =
       members = record { table = map fromMember (s .table); len = s .listed; order = record { row = s .order; position = s .position }; lamps = s .lamps };
       disseminator = record { alive = rowHeap (s .alive); deceased = rowHeap (s .deceased) };
       timers = rowTimers (s .timers);
+      departed = rowDeparted (s .departed);
     }
 
 -- a node with a part replaced
 abbrev pub withMembers : Node → Members → Node
-withMembers n m = record { settings = n .settings; own = n .own; members = m; disseminator = n .disseminator; timers = n .timers }
+withMembers n m = record { settings = n .settings; own = n .own; members = m; disseminator = n .disseminator; timers = n .timers; departed = n .departed }
 
 abbrev pub withDisseminator : Node → Disseminator → Node
-withDisseminator n d = record { settings = n .settings; own = n .own; members = n .members; disseminator = d; timers = n .timers }
+withDisseminator n d = record { settings = n .settings; own = n .own; members = n .members; disseminator = d; timers = n .timers; departed = n .departed }
 
 abbrev pub withTimers : Node → Timers → Node
-withTimers n t = record { settings = n .settings; own = n .own; members = n .members; disseminator = n .disseminator; timers = t }
+withTimers n t = record { settings = n .settings; own = n .own; members = n .members; disseminator = n .disseminator; timers = t; departed = n .departed }
+
+-- the list and the row beside it
+abbrev pub withLists : Node → Members → DepartedRow → Node
+withLists n m r = record { settings = n .settings; own = n .own; members = m; disseminator = n .disseminator; timers = n .timers; departed = r }
 
 -- gossip was chosen, into a row of 64
 abbrev pub spreadOf : M.Spread Addr → Spread
@@ -135,6 +148,7 @@ noSettings =
       «max_selected» = 0;
       «max_size» = 0;
       collect = false;
+      remember = false;
     }
 
 abbrev pub nobody : M.Node Addr
@@ -145,6 +159,7 @@ nobody =
       members = record { table = []; order = []; position = 0 };
       disseminator = noNews;
       timers = [];
+      departed = [];
     }
 
 unfoldable pub createdOf : calls.Created Addr → Answer

@@ -1,9 +1,10 @@
-// A node as a value: its settings, its own address, the list, the disseminator and the timers. And the calls that need nothing else.
+// A node as a value: its settings, its own address, the list, the disseminator, the timers and the departed. And the calls that need nothing else.
 pub mod parts;
 pub mod settings;
 pub mod tests;
 
 use address::Address;
+use departed::DepartedRow;
 use disseminate::Disseminator;
 use member::Member;
 use member::Members;
@@ -30,6 +31,7 @@ pub struct Node {
     pub members: Members,
     pub disseminator: Disseminator,
     pub timers: Timers,
+    pub departed: DepartedRow,
 }
 
 impl Node {
@@ -43,6 +45,7 @@ impl Node {
             members: Members::new(own, number),
             disseminator: Disseminator::new(),
             timers: Timers::new(),
+            departed: DepartedRow::new(),
         }
     }
 
@@ -60,6 +63,7 @@ impl Node {
             max_selected: 0,
             max_size: 0,
             collect: false,
+            remember: false,
         };
         Node {
             settings,
@@ -67,6 +71,7 @@ impl Node {
             members: nobody_listed(),
             disseminator: Disseminator::new(),
             timers: Timers::new(),
+            departed: DepartedRow::new(),
         }
     }
 }

@@ -25,12 +25,14 @@ impl Node {
         let own = self.own;
         let disseminator = self.disseminator;
         let timers = self.timers;
+        let departed = self.departed;
         Node {
             settings,
             own,
             members,
             disseminator,
             timers,
+            departed,
         }
     }
 
@@ -41,12 +43,14 @@ impl Node {
         let own = self.own;
         let members = self.members;
         let disseminator = self.disseminator;
+        let departed = self.departed;
         Node {
             settings,
             own,
             members,
             disseminator,
             timers,
+            departed,
         }
     }
 
@@ -91,6 +95,7 @@ impl Node {
         let own = self.own;
         let members = self.members;
         let timers = self.timers;
+        let departed = self.departed;
         let alive = self.disseminator.alive;
         let deceased = self.disseminator.deceased;
         let choice = disseminate::get_gossip(alive, deceased, settings, members.len);
@@ -108,6 +113,7 @@ impl Node {
                     deceased: dead,
                 },
                 timers,
+                departed,
             },
             rows,
             count: choice.chosen.count,

@@ -29,9 +29,14 @@ pub fn sound(node: Node) -> bool
     let dead = heap::sound::heap_sound(deceased, Kind::Deceased, node.own);
     let timers = node.timers;
     let running = timers::sound_timers(timers);
+    let departed = node.departed;
+    let gone = departed::sound::sound_departed(departed);
     both(
-        both(both(both(both(set, own), listed), living), dead),
-        running,
+        both(
+            both(both(both(both(set, own), listed), living), dead),
+            running,
+        ),
+        gone,
     )
 }
 
@@ -68,4 +73,7 @@ pub fn has_rows(node: Node)
     heap::sound::has_entries(dead);
     let running = timers.entries;
     has_timers(running);
+    let departed = node.departed;
+    let gone = departed.entries;
+    departed::sound::has_departed(gone);
 }

@@ -207,6 +207,7 @@ pub fn send_ping_req(
         Drew::Used(used) => {
             let own = node.own;
             let timers = node.timers;
+            let departed = node.departed;
             let alive = pushed.grown.heap;
             let deceased = node.disseminator.deceased;
             let turned = Node {
@@ -215,6 +216,7 @@ pub fn send_ping_req(
                 members: after,
                 disseminator: Disseminator { alive, deceased },
                 timers,
+                departed,
             };
             ask_group(
                 turned,

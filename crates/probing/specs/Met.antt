@@ -21,6 +21,7 @@ use Rattle.model.specs.Heap as heap
 use Rattle.model.specs.Choose as choosing
 use Rattle.model.specs.Lamps as lamps
 use Rattle.model.specs.Members as list
+use Rattle.model.specs.Departed as gone
 use Rattle.model.specs.Members.{addrs, listed}
 use Rattle.model.specs.Node as M
 use Rattle.model.specs.Node.{loaded}
@@ -49,6 +50,7 @@ settings =
       «max_selected» = 6;
       «max_size» = 1169;
       collect = false;
+      remember = false;
     }
 
 abbrev alive : ℕ → Member ℕ
@@ -85,11 +87,11 @@ unfolding sounds.inRange sounds.positioned
 given = restarts refl (record { few = lit≤ tt; own-valid = refl; valid = refl; once = refl; placed = refl })
 
 pub counted : pingsOf numbers threePings begins ≡ 3
-unfolding answers.when rows.swap limit.leastFrom limit.leastPower limit.limitOf heap.climbIn heap.climb heap.lower heap.downIn heap.down heap.push heap.sinkTop heap.removeTop heap.allBelow choosing.termsOf choosing.wasNoted choosing.takeTop choosing.tryHeap choosing.tryAlive choosing.tryDeceased choosing.over choosing.rounds choosing.choose choosing.orElse choosing.death list.shuffle list.advance list.update list.seek list.pickFrom M.quiet M.andMore M.change M.spread M.loaded M.stored handler.acked handler.handle D.isOver D.due D.pinged D.sendPing D.heard D.waited sounds.inRange sounds.positioned sounds.soundEntry sounds.soundHeap sounds.soundRows sounds.soundMembers sounds.soundTimers sounds.sound lamps.lampsOf calls.validAction calls.validState calls.message calls.detect words.partsOf handler.forwarded
+unfolding answers.when rows.swap limit.leastFrom limit.leastPower limit.limitOf heap.climbIn heap.climb heap.lower heap.downIn heap.down heap.push heap.sinkTop heap.removeTop heap.allBelow choosing.termsOf choosing.wasNoted choosing.takeTop choosing.tryHeap choosing.tryAlive choosing.tryDeceased choosing.over choosing.rounds choosing.choose choosing.orElse choosing.death list.shuffle list.advance list.update list.seek list.pickFrom M.quiet M.andMore M.change M.spread M.loaded M.stored handler.acked handler.handle D.isOver D.due D.pinged D.sendPing D.heard D.waited sounds.inRange sounds.positioned sounds.soundEntry sounds.soundHeap sounds.soundRows sounds.soundMembers sounds.soundTimers sounds.soundDeparted sounds.sound lamps.lampsOf calls.validAction calls.validState calls.message calls.detect words.partsOf handler.forwarded
 counted = refl
 
 pub none-asked : requestsOf numbers threePings begins ≡ 0
-unfolding answers.when rows.swap limit.leastFrom limit.leastPower limit.limitOf heap.climbIn heap.climb heap.lower heap.downIn heap.down heap.push heap.sinkTop heap.removeTop heap.allBelow choosing.termsOf choosing.wasNoted choosing.takeTop choosing.tryHeap choosing.tryAlive choosing.tryDeceased choosing.over choosing.rounds choosing.choose choosing.orElse choosing.death list.shuffle list.advance list.update list.seek list.pickFrom M.quiet M.andMore M.change M.spread M.loaded M.stored handler.acked handler.handle D.isOver D.due D.pinged D.sendPing D.heard D.waited sounds.inRange sounds.positioned sounds.soundEntry sounds.soundHeap sounds.soundRows sounds.soundMembers sounds.soundTimers sounds.sound lamps.lampsOf calls.validAction calls.validState calls.message calls.detect words.partsOf handler.forwarded
+unfolding answers.when rows.swap limit.leastFrom limit.leastPower limit.limitOf heap.climbIn heap.climb heap.lower heap.downIn heap.down heap.push heap.sinkTop heap.removeTop heap.allBelow choosing.termsOf choosing.wasNoted choosing.takeTop choosing.tryHeap choosing.tryAlive choosing.tryDeceased choosing.over choosing.rounds choosing.choose choosing.orElse choosing.death list.shuffle list.advance list.update list.seek list.pickFrom M.quiet M.andMore M.change M.spread M.loaded M.stored handler.acked handler.handle D.isOver D.due D.pinged D.sendPing D.heard D.waited sounds.inRange sounds.positioned sounds.soundEntry sounds.soundHeap sounds.soundRows sounds.soundMembers sounds.soundTimers sounds.soundDeparted sounds.sound lamps.lampsOf calls.validAction calls.validState calls.message calls.detect words.partsOf handler.forwarded
 none-asked = refl
 
 -- who is listed at each moment, before it and after it
@@ -116,23 +118,23 @@ abbrev same-seven : List (List ℕ)
 same-seven = replicate 7 (3 ∷ 1 ∷ 2 ∷ [])
 
 before-each : befores (trace numbers threePings begins) ≡ same-seven
-unfolding answers.when rows.swap limit.leastFrom limit.leastPower limit.limitOf heap.climbIn heap.climb heap.lower heap.downIn heap.down heap.push heap.sinkTop heap.removeTop heap.allBelow choosing.termsOf choosing.wasNoted choosing.takeTop choosing.tryHeap choosing.tryAlive choosing.tryDeceased choosing.over choosing.rounds choosing.choose choosing.orElse choosing.death list.shuffle list.advance list.update list.seek list.pickFrom M.quiet M.andMore M.change M.spread M.loaded M.stored handler.acked handler.handle D.isOver D.due D.pinged D.sendPing D.heard D.waited sounds.inRange sounds.positioned sounds.soundEntry sounds.soundHeap sounds.soundRows sounds.soundMembers sounds.soundTimers sounds.sound lamps.lampsOf calls.validAction calls.validState calls.message calls.detect words.partsOf handler.forwarded
+unfolding answers.when rows.swap limit.leastFrom limit.leastPower limit.limitOf heap.climbIn heap.climb heap.lower heap.downIn heap.down heap.push heap.sinkTop heap.removeTop heap.allBelow choosing.termsOf choosing.wasNoted choosing.takeTop choosing.tryHeap choosing.tryAlive choosing.tryDeceased choosing.over choosing.rounds choosing.choose choosing.orElse choosing.death list.shuffle list.advance list.update list.seek list.pickFrom M.quiet M.andMore M.change M.spread M.loaded M.stored handler.acked handler.handle D.isOver D.due D.pinged D.sendPing D.heard D.waited sounds.inRange sounds.positioned sounds.soundEntry sounds.soundHeap sounds.soundRows sounds.soundMembers sounds.soundTimers sounds.soundDeparted sounds.sound lamps.lampsOf calls.validAction calls.validState calls.message calls.detect words.partsOf handler.forwarded
 before-each = refl
 
 after-each : afters (trace numbers threePings begins) ≡ same-seven
-unfolding answers.when rows.swap limit.leastFrom limit.leastPower limit.limitOf heap.climbIn heap.climb heap.lower heap.downIn heap.down heap.push heap.sinkTop heap.removeTop heap.allBelow choosing.termsOf choosing.wasNoted choosing.takeTop choosing.tryHeap choosing.tryAlive choosing.tryDeceased choosing.over choosing.rounds choosing.choose choosing.orElse choosing.death list.shuffle list.advance list.update list.seek list.pickFrom M.quiet M.andMore M.change M.spread M.loaded M.stored handler.acked handler.handle D.isOver D.due D.pinged D.sendPing D.heard D.waited sounds.inRange sounds.positioned sounds.soundEntry sounds.soundHeap sounds.soundRows sounds.soundMembers sounds.soundTimers sounds.sound lamps.lampsOf calls.validAction calls.validState calls.message calls.detect words.partsOf handler.forwarded
+unfolding answers.when rows.swap limit.leastFrom limit.leastPower limit.limitOf heap.climbIn heap.climb heap.lower heap.downIn heap.down heap.push heap.sinkTop heap.removeTop heap.allBelow choosing.termsOf choosing.wasNoted choosing.takeTop choosing.tryHeap choosing.tryAlive choosing.tryDeceased choosing.over choosing.rounds choosing.choose choosing.orElse choosing.death list.shuffle list.advance list.update list.seek list.pickFrom M.quiet M.andMore M.change M.spread M.loaded M.stored handler.acked handler.handle D.isOver D.due D.pinged D.sendPing D.heard D.waited sounds.inRange sounds.positioned sounds.soundEntry sounds.soundHeap sounds.soundRows sounds.soundMembers sounds.soundTimers sounds.soundDeparted sounds.sound lamps.lampsOf calls.validAction calls.validState calls.message calls.detect words.partsOf handler.forwarded
 after-each = refl
 
 pub nobody-moves : NobodyMoves numbers (trace numbers threePings begins)
 nobody-moves = nobody (trace numbers threePings begins) (before-each ∙ sym after-each)
 
 pub each-pinged : pingedAlong numbers threePings begins ≡ 2 ∷ 2 ∷ 3 ∷ []
-unfolding answers.when rows.swap limit.leastFrom limit.leastPower limit.limitOf heap.climbIn heap.climb heap.lower heap.downIn heap.down heap.push heap.sinkTop heap.removeTop heap.allBelow choosing.termsOf choosing.wasNoted choosing.takeTop choosing.tryHeap choosing.tryAlive choosing.tryDeceased choosing.over choosing.rounds choosing.choose choosing.orElse choosing.death list.shuffle list.advance list.update list.seek list.pickFrom M.quiet M.andMore M.change M.spread M.loaded M.stored handler.acked handler.handle D.isOver D.due D.pinged D.sendPing D.heard D.waited sounds.inRange sounds.positioned sounds.soundEntry sounds.soundHeap sounds.soundRows sounds.soundMembers sounds.soundTimers sounds.sound lamps.lampsOf calls.validAction calls.validState calls.message calls.detect words.partsOf handler.forwarded
+unfolding answers.when rows.swap limit.leastFrom limit.leastPower limit.limitOf heap.climbIn heap.climb heap.lower heap.downIn heap.down heap.push heap.sinkTop heap.removeTop heap.allBelow choosing.termsOf choosing.wasNoted choosing.takeTop choosing.tryHeap choosing.tryAlive choosing.tryDeceased choosing.over choosing.rounds choosing.choose choosing.orElse choosing.death list.shuffle list.advance list.update list.seek list.pickFrom M.quiet M.andMore M.change M.spread M.loaded M.stored handler.acked handler.handle D.isOver D.due D.pinged D.sendPing D.heard D.waited sounds.inRange sounds.positioned sounds.soundEntry sounds.soundHeap sounds.soundRows sounds.soundMembers sounds.soundTimers sounds.soundDeparted sounds.sound lamps.lampsOf calls.validAction calls.validState calls.message calls.detect words.partsOf handler.forwarded
 each-pinged = refl
 
 -- 2n − 2 pings, and 3 isn't among the pinged
 pub sharp : (pingsOf numbers twoPings begins ≡ 2) × (pingedAlong numbers twoPings begins ≡ 2 ∷ 2 ∷ [])
-unfolding answers.when rows.swap limit.leastFrom limit.leastPower limit.limitOf heap.climbIn heap.climb heap.lower heap.downIn heap.down heap.push heap.sinkTop heap.removeTop heap.allBelow choosing.termsOf choosing.wasNoted choosing.takeTop choosing.tryHeap choosing.tryAlive choosing.tryDeceased choosing.over choosing.rounds choosing.choose choosing.orElse choosing.death list.shuffle list.advance list.update list.seek list.pickFrom M.quiet M.andMore M.change M.spread M.loaded M.stored handler.acked handler.handle D.isOver D.due D.pinged D.sendPing D.heard D.waited sounds.inRange sounds.positioned sounds.soundEntry sounds.soundHeap sounds.soundRows sounds.soundMembers sounds.soundTimers sounds.sound lamps.lampsOf calls.validAction calls.validState calls.message calls.detect words.partsOf handler.forwarded
+unfolding answers.when rows.swap limit.leastFrom limit.leastPower limit.limitOf heap.climbIn heap.climb heap.lower heap.downIn heap.down heap.push heap.sinkTop heap.removeTop heap.allBelow choosing.termsOf choosing.wasNoted choosing.takeTop choosing.tryHeap choosing.tryAlive choosing.tryDeceased choosing.over choosing.rounds choosing.choose choosing.orElse choosing.death list.shuffle list.advance list.update list.seek list.pickFrom M.quiet M.andMore M.change M.spread M.loaded M.stored handler.acked handler.handle D.isOver D.due D.pinged D.sendPing D.heard D.waited sounds.inRange sounds.positioned sounds.soundEntry sounds.soundHeap sounds.soundRows sounds.soundMembers sounds.soundTimers sounds.soundDeparted sounds.sound lamps.lampsOf calls.validAction calls.validState calls.message calls.detect words.partsOf handler.forwarded
 sharp = (refl, refl)
 
 -- what may stand between two pings: an add of a listed address, messages, a declaration, a timer that removes nobody, waits, lent wait records, steps that aren't due, and refused calls
@@ -152,20 +154,20 @@ between =
     ∷ []
 
 pub between-asks-nobody : requestsOf numbers between begins ≡ 0
-unfolding answers.when rows.swap limit.leastFrom limit.leastPower limit.limitOf heap.climbIn heap.climb heap.lower heap.downIn heap.down heap.push heap.sinkTop heap.removeTop heap.allBelow choosing.termsOf choosing.wasNoted choosing.takeTop choosing.tryHeap choosing.tryAlive choosing.tryDeceased choosing.over choosing.rounds choosing.choose choosing.orElse choosing.death list.shuffle list.advance list.update list.seek list.pickFrom M.quiet M.andMore M.change M.spread M.loaded M.stored handler.acked handler.handle D.isOver D.due D.pinged D.sendPing D.heard D.waited sounds.inRange sounds.positioned sounds.soundEntry sounds.soundHeap sounds.soundRows sounds.soundMembers sounds.soundTimers sounds.sound lamps.lampsOf calls.validAction calls.validState calls.message calls.detect words.partsOf handler.forwarded list.added list.add M.emit M.pushed handler.judgeSender handler.listAfter handler.newsOf handler.act handler.admit handler.answerTo D.declare D.firstOver D.fateOf D.byFate D.endAt calls.addPeer calls.endTimer
+unfolding answers.when rows.swap limit.leastFrom limit.leastPower limit.limitOf heap.climbIn heap.climb heap.lower heap.downIn heap.down heap.push heap.sinkTop heap.removeTop heap.allBelow choosing.termsOf choosing.wasNoted choosing.takeTop choosing.tryHeap choosing.tryAlive choosing.tryDeceased choosing.over choosing.rounds choosing.choose choosing.orElse choosing.death list.shuffle list.advance list.update list.seek list.pickFrom M.quiet M.andMore M.change M.spread M.loaded M.stored handler.acked handler.handle D.isOver D.due D.pinged D.sendPing D.heard D.waited sounds.inRange sounds.positioned sounds.soundEntry sounds.soundHeap sounds.soundRows sounds.soundMembers sounds.soundTimers sounds.soundDeparted sounds.sound lamps.lampsOf calls.validAction calls.validState calls.message calls.detect words.partsOf handler.forwarded list.added list.add M.emit M.pushed handler.judgeSender gone.lookUp gone.deathOf handler.listAfter handler.rowAfter handler.newsOf handler.act handler.admit handler.answerTo D.declare D.firstOver D.fateOf D.byFate D.endAt calls.addPeer calls.endTimer
 between-asks-nobody = refl
 
 -- a ping for another and an answer are sent, and none of its own
 pub between-pings-nobody : (pingsOf numbers between begins ≡ 0) × (pingedAlong numbers between begins ≡ [])
-unfolding answers.when rows.swap limit.leastFrom limit.leastPower limit.limitOf heap.climbIn heap.climb heap.lower heap.downIn heap.down heap.push heap.sinkTop heap.removeTop heap.allBelow choosing.termsOf choosing.wasNoted choosing.takeTop choosing.tryHeap choosing.tryAlive choosing.tryDeceased choosing.over choosing.rounds choosing.choose choosing.orElse choosing.death list.shuffle list.advance list.update list.seek list.pickFrom M.quiet M.andMore M.change M.spread M.loaded M.stored handler.acked handler.handle D.isOver D.due D.pinged D.sendPing D.heard D.waited sounds.inRange sounds.positioned sounds.soundEntry sounds.soundHeap sounds.soundRows sounds.soundMembers sounds.soundTimers sounds.sound lamps.lampsOf calls.validAction calls.validState calls.message calls.detect words.partsOf handler.forwarded list.added list.add M.emit M.pushed handler.judgeSender handler.listAfter handler.newsOf handler.act handler.admit handler.answerTo D.declare D.firstOver D.fateOf D.byFate D.endAt calls.addPeer calls.endTimer
+unfolding answers.when rows.swap limit.leastFrom limit.leastPower limit.limitOf heap.climbIn heap.climb heap.lower heap.downIn heap.down heap.push heap.sinkTop heap.removeTop heap.allBelow choosing.termsOf choosing.wasNoted choosing.takeTop choosing.tryHeap choosing.tryAlive choosing.tryDeceased choosing.over choosing.rounds choosing.choose choosing.orElse choosing.death list.shuffle list.advance list.update list.seek list.pickFrom M.quiet M.andMore M.change M.spread M.loaded M.stored handler.acked handler.handle D.isOver D.due D.pinged D.sendPing D.heard D.waited sounds.inRange sounds.positioned sounds.soundEntry sounds.soundHeap sounds.soundRows sounds.soundMembers sounds.soundTimers sounds.soundDeparted sounds.sound lamps.lampsOf calls.validAction calls.validState calls.message calls.detect words.partsOf handler.forwarded list.added list.add M.emit M.pushed handler.judgeSender gone.lookUp gone.deathOf handler.listAfter handler.rowAfter handler.newsOf handler.act handler.admit handler.answerTo D.declare D.firstOver D.fateOf D.byFate D.endAt calls.addPeer calls.endTimer
 between-pings-nobody = (refl, refl)
 
 between-before : befores (trace numbers between begins) ≡ same-seven
-unfolding answers.when rows.swap limit.leastFrom limit.leastPower limit.limitOf heap.climbIn heap.climb heap.lower heap.downIn heap.down heap.push heap.sinkTop heap.removeTop heap.allBelow choosing.termsOf choosing.wasNoted choosing.takeTop choosing.tryHeap choosing.tryAlive choosing.tryDeceased choosing.over choosing.rounds choosing.choose choosing.orElse choosing.death list.shuffle list.advance list.update list.seek list.pickFrom M.quiet M.andMore M.change M.spread M.loaded M.stored handler.acked handler.handle D.isOver D.due D.pinged D.sendPing D.heard D.waited sounds.inRange sounds.positioned sounds.soundEntry sounds.soundHeap sounds.soundRows sounds.soundMembers sounds.soundTimers sounds.sound lamps.lampsOf calls.validAction calls.validState calls.message calls.detect words.partsOf handler.forwarded list.added list.add M.emit M.pushed handler.judgeSender handler.listAfter handler.newsOf handler.act handler.admit handler.answerTo D.declare D.firstOver D.fateOf D.byFate D.endAt calls.addPeer calls.endTimer
+unfolding answers.when rows.swap limit.leastFrom limit.leastPower limit.limitOf heap.climbIn heap.climb heap.lower heap.downIn heap.down heap.push heap.sinkTop heap.removeTop heap.allBelow choosing.termsOf choosing.wasNoted choosing.takeTop choosing.tryHeap choosing.tryAlive choosing.tryDeceased choosing.over choosing.rounds choosing.choose choosing.orElse choosing.death list.shuffle list.advance list.update list.seek list.pickFrom M.quiet M.andMore M.change M.spread M.loaded M.stored handler.acked handler.handle D.isOver D.due D.pinged D.sendPing D.heard D.waited sounds.inRange sounds.positioned sounds.soundEntry sounds.soundHeap sounds.soundRows sounds.soundMembers sounds.soundTimers sounds.soundDeparted sounds.sound lamps.lampsOf calls.validAction calls.validState calls.message calls.detect words.partsOf handler.forwarded list.added list.add M.emit M.pushed handler.judgeSender gone.lookUp gone.deathOf handler.listAfter handler.rowAfter handler.newsOf handler.act handler.admit handler.answerTo D.declare D.firstOver D.fateOf D.byFate D.endAt calls.addPeer calls.endTimer
 between-before = refl
 
 between-after : afters (trace numbers between begins) ≡ same-seven
-unfolding answers.when rows.swap limit.leastFrom limit.leastPower limit.limitOf heap.climbIn heap.climb heap.lower heap.downIn heap.down heap.push heap.sinkTop heap.removeTop heap.allBelow choosing.termsOf choosing.wasNoted choosing.takeTop choosing.tryHeap choosing.tryAlive choosing.tryDeceased choosing.over choosing.rounds choosing.choose choosing.orElse choosing.death list.shuffle list.advance list.update list.seek list.pickFrom M.quiet M.andMore M.change M.spread M.loaded M.stored handler.acked handler.handle D.isOver D.due D.pinged D.sendPing D.heard D.waited sounds.inRange sounds.positioned sounds.soundEntry sounds.soundHeap sounds.soundRows sounds.soundMembers sounds.soundTimers sounds.sound lamps.lampsOf calls.validAction calls.validState calls.message calls.detect words.partsOf handler.forwarded list.added list.add M.emit M.pushed handler.judgeSender handler.listAfter handler.newsOf handler.act handler.admit handler.answerTo D.declare D.firstOver D.fateOf D.byFate D.endAt calls.addPeer calls.endTimer
+unfolding answers.when rows.swap limit.leastFrom limit.leastPower limit.limitOf heap.climbIn heap.climb heap.lower heap.downIn heap.down heap.push heap.sinkTop heap.removeTop heap.allBelow choosing.termsOf choosing.wasNoted choosing.takeTop choosing.tryHeap choosing.tryAlive choosing.tryDeceased choosing.over choosing.rounds choosing.choose choosing.orElse choosing.death list.shuffle list.advance list.update list.seek list.pickFrom M.quiet M.andMore M.change M.spread M.loaded M.stored handler.acked handler.handle D.isOver D.due D.pinged D.sendPing D.heard D.waited sounds.inRange sounds.positioned sounds.soundEntry sounds.soundHeap sounds.soundRows sounds.soundMembers sounds.soundTimers sounds.soundDeparted sounds.sound lamps.lampsOf calls.validAction calls.validState calls.message calls.detect words.partsOf handler.forwarded list.added list.add M.emit M.pushed handler.judgeSender gone.lookUp gone.deathOf handler.listAfter handler.rowAfter handler.newsOf handler.act handler.admit handler.answerTo D.declare D.firstOver D.fateOf D.byFate D.endAt calls.addPeer calls.endTimer
 between-after = refl
 
 pub between-moves-nobody : NobodyMoves numbers (trace numbers between begins)

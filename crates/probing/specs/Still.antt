@@ -154,7 +154,7 @@ module _ {A : Type 0} (address : Address A) (lawful : Lawful address) where
 
   act-rule : (v : Verdict A) (s : Node A) (ds : List ℕ) → After (Moves (s .members)) (listAfter address v (s .members) ds) → Rule s (act address v s ds)
   unfolding act
-  act-rule v s ds h = after-then h (λ m rest p. tell-rule (newsOf address v (s .own)) s (withMembers s m) rest p)
+  act-rule v s ds h = after-then h (λ m rest p. tell-rule (newsOf address v (s .own)) s _ rest p)
 
   item-rule : (e : Event A) (s : Node A) (ds : List ℕ) → Whole same (s .members) → Rule s (item address e s ds)
   unfolding item

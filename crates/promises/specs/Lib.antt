@@ -18,4 +18,5 @@ pub mod Panel
 pub mod Begun
 pub mod Demand3
 pub mod Collects
+pub mod Remembered
 pub mod Probed

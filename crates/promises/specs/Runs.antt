@@ -18,6 +18,7 @@ use Rattle.history.specs.Histories.{World, Call, outcome, worldOf, run}
 use Rattle.heap.specs.Views.{to-from-entries}
 use Rattle.member.specs.Views.{toMember, fromMember}
 use Rattle.timers.specs.Views.{toTimer, fromTimer}
+use Rattle.departed.specs.Views.{toDeparted, fromDeparted}
 use Rattle.node.specs.declared.Node.{Node}
 use Rattle.node.specs.Views.{storedView, unstored, answerOf, fromMessage, noLetter}
 use Rattle.wait.specs.declared.Wait.{Wait}
@@ -36,6 +37,7 @@ unfolding storedView unstored
 stored-unstored s =
     let t = there-and-back fromMember toMember (λ m. refl) (s .table) in
     let m = there-and-back fromTimer toTimer (λ x. refl) (s .timers .places) in
+    let e = there-and-back fromDeparted toDeparted (λ x. refl) (s .departed .places) in
     λ i. record {
       settings = s .settings;
       own = s .own;
@@ -47,6 +49,7 @@ stored-unstored s =
       alive = record { places = to-from-entries (s .alive .places) i; used = s .alive .used };
       deceased = record { places = to-from-entries (s .deceased .places) i; used = s .deceased .used };
       timers = record { places = m i; used = s .timers .used };
+      departed = record { places = e i; used = s .departed .used };
     }
 
 -- a program's node and wait record, as the model has them

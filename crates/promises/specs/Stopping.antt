@@ -123,12 +123,12 @@ module _ {A : Type 0} (address : Address A) where
 
   enter-stops : (d : Option ℕ) (a : A) (n : ℕ) (s : Node A) (ds : List ℕ) → atEnd d ≡ false
       → Refuses (wantsStops address (record { plus-one = d; adds = true; pushes = some (record { heap = kind.Alive; about = a; number = n }) }) s ds) (handler.act address (handler.Enter a n) s ds)
-  unfolding handler.act handler.listAfter handler.newsOf partsOf
-  enter-stops d a n s ds e = rw e (untested (then (addStops s ds) (add-refuses a n s ds) (λ m rest. emit-refuses kind.Alive _ (M.withMembers s m) rest)))
+  unfolding handler.act handler.listAfter handler.rowAfter handler.newsOf partsOf
+  enter-stops d a n s ds e = rw e (untested (then (addStops s ds) (add-refuses a n s ds) (λ m rest. emit-refuses kind.Alive _ _ rest)))
 
   judged-refuses : (e : Event A) (v : handler.Verdict A) (s : Node A) (ds : List ℕ) → Judged address (s .own) (s .members .table) (heldDeath address (partsOf address e .subject) s) e v
       → Refuses (itemStops address e s ds) (handler.act address v s ds)
-  unfolding handler.act handler.listAfter handler.newsOf partsOf
+  unfolding handler.act handler.listAfter handler.rowAfter handler.newsOf partsOf
   judged-refuses _ _ s ds skipped = quiet-stops s ds
   judged-refuses _ _ s ds (joined-at-end {a = a} e) = halts (fails (death-none (heldDeath address a s) e) refl)
   judged-refuses _ _ s ds (joined-low {a = a} {n = n} least e l h) =
@@ -158,7 +158,7 @@ module _ {A : Type 0} (address : Address A) where
   item-refuses e s ds = judged-refuses e _ s ds (judged address (s .own) (s .members .table) (heldDeath address (partsOf address e .subject) s) e)
 
   sender-refuses : (a : A) (v : handler.Verdict A) (s : Node A) (ds : List ℕ) → SenderJudged address (s .own) (s .members .table) (heldDeath address a s) a v → Refuses (admitStops address a s ds) (handler.act address v s ds)
-  unfolding handler.act handler.listAfter handler.newsOf
+  unfolding handler.act handler.listAfter handler.rowAfter handler.newsOf
   sender-refuses a _ s ds (listed-already l) = rw l (quiet-stops s ds)
   sender-refuses a _ s ds (sender-at-end l e) = rw l (halts (fails (death-none (heldDeath address a s) e) refl))
   sender-refuses a _ s ds (sender-enters n l e) = rw (l, death-some (heldDeath address a s) n e .1) (enter-stops (heldDeath address a s) a n s ds (death-some (heldDeath address a s) n e .0))
@@ -196,7 +196,7 @@ module _ {A : Type 0} (address : Address A) where
 
   fate-refuses : (v : Fate) (t : Timer A) (ts : List (Timer A)) (s : Node A) (ds : List ℕ) → Refuses (endStops v s) (calls.reports address (D.byFate address v t (M.withTimers s ts) ds))
   unfolding D.byFate M.leave partsOf
-  fate-refuses Leaves t ts s ds = then (endStops Leaves s) (emit-refuses kind.Deceased _ (M.leave address (t .addr) (M.withTimers s ts)) ds) (λ o rest. goes tt)
+  fate-refuses Leaves t ts s ds = then (endStops Leaves s) (emit-refuses kind.Deceased _ (M.leave address (t .addr) (t .number) (M.withTimers s ts)) ds) (λ o rest. goes tt)
   fate-refuses Stays t ts s ds = then [] (quiet-refuses (M.withTimers s ts) ds) (λ o rest. goes tt)
   fate-refuses Absent t ts s ds = then [] (quiet-refuses (M.withTimers s ts) ds) (λ o rest. goes tt)
 

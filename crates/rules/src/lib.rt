@@ -1,5 +1,6 @@
 // The rules of an event: the verdict on it, what that does to the list, and what is said of it.
 use address::Address;
+use departed::DepartedRow;
 use disseminate::Found;
 use disseminate::collect;
 use heap::Heap;
@@ -27,6 +28,7 @@ ghost use Rattle.types.specs.Views.{toEvent};
 ghost use Rattle.heap.specs.Views.{heapView, Packed};
 ghost use Rattle.disseminate.specs.Views.{fromFound};
 ghost use Rattle.member.specs.Views.{viewMembers, packMembers, Held, Counted};
+ghost use Rattle.departed.specs.Views as gone;
 ghost use Rattle.rules.specs.Views.{toFound, fromVerdict, toVerdict, fromNews, toNews, collectsFor, stayed, listAfterOf};
 
 // What an event comes to. Nothing happens: there is none, the address is unknown, a suspicion's number equals that of a peer that isn't Alive, or the number is not high enough.
@@ -290,6 +292,17 @@ pub fn list_after(
         Verdict::Recover { addr, number } => set(members, own, addr, State::Alive, number),
         Verdict::Suspect { addr, number } => set(members, own, addr, State::Suspected, number),
         Verdict::Bury { addr, number: _ } => kept(members.remove_member(own, addr)),
+    }
+}
+
+// The row of the departed after a verdict, by the list before it: one that is buried comes into it.
+pub fn row_after(departed: DepartedRow, members: Members, verdict: Verdict) -> DepartedRow
+    requires { ⌜ gone.Packed departed × Held members ⌝ }
+    ensures { λ r. ⌜ r ≡ gone.packDeparted (handler.rowAfter here (toVerdict verdict) (viewMembers members .table) (gone.departedView departed)) ⌝ }
+{
+    match verdict {
+        Verdict::Bury { addr, number } => departed.leave(members, addr, number),
+        _ => departed,
     }
 }
 

@@ -21,6 +21,7 @@ use Rattle.model.specs.Lamps.{lampsOf}
 use Rattle.member.specs.Views.{toMember, fromMember, nobody, packWith}
 use Rattle.member.specs.Packing.{to-from}
 use Rattle.timers.specs.Views.{packTimers}
+use Rattle.departed.specs.Views.{packDeparted}
 use Rattle.disseminate.specs.Views.{packDisseminator, noNews}
 use Rattle.node.specs.declared.Node.{Node}
 use Rattle.node.specs.Views.{plainAnswer, packNode, createdOf}
@@ -72,6 +73,7 @@ node-is i settings =
       members = record { table = t j; len = n j; order = record { row = o j; position = positionIn i }; lamps = l j };
       disseminator = packDisseminator noNews;
       timers = packTimers [];
+      departed = packDeparted [];
     }
 
 module _ (bytes : List ℕ) (settings : Settings) (tick : ℕ) where

@@ -19,6 +19,7 @@ use Rattle.wait.specs.Views.{freshWait}
 use Rattle.node.specs.declared.Node.{Node}
 use Rattle.disseminate.specs.Views.{packDisseminator, noNews}
 use Rattle.timers.specs.Views.{packTimers}
+use Rattle.departed.specs.Views.{packDeparted}
 use Rattle.node.specs.declared.Answer.{Answer}
 use Rattle.node.specs.Views.{storedView, packNode, plainAnswer, createdOf}
 use Rattle.node.specs.Views.{nobody as emptyNode}
@@ -64,7 +65,7 @@ notRestored r tick = restoredAs (plainAnswer (Refused r) (packNode emptyNode)) t
 
 abbrev pub nodeOf : Loaded → Settings → Node
 nodeOf l settings =
-    record { settings = settings; own = l .own; members = membersOf l; disseminator = packDisseminator noNews; timers = packTimers [] }
+    record { settings = settings; own = l .own; members = membersOf l; disseminator = packDisseminator noNews; timers = packTimers []; departed = packDeparted [] }
 
 -- then 1
 unfoldable pub setUpOf : Loaded → Settings → ℕ → Restored

@@ -1,4 +1,5 @@
 // Restart with the list we had: a node's list saved in bytes, and a node restored from them.
+use departed::DepartedRow;
 use disseminate::Disseminator;
 use image::Loaded;
 use image::Verdict;
@@ -101,7 +102,7 @@ fn refused(refusal: Refusal, tick: u32) -> Restored
     }
 }
 
-// An accepted list in a node with empty heaps and no timers, if the settings are in range.
+// An accepted list in a node with empty heaps, no timers and nobody departed, if the settings are in range.
 fn set_up(loaded: Loaded, settings: Settings, tick: u32) -> Restored
     requires { ⌜ loaded .len ≤ 64 ⌝ }
     ensures { λ r. ⌜ r ≡ setUpOf loaded settings tick ⌝ }
@@ -116,6 +117,7 @@ fn set_up(loaded: Loaded, settings: Settings, tick: u32) -> Restored
         members: members_of(loaded),
         disseminator: Disseminator::new(),
         timers: Timers::new(),
+        departed: DepartedRow::new(),
     };
     Restored {
         answer: Answer::plain(Reply::Done(0), node),

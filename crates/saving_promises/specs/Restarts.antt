@@ -155,6 +155,7 @@ pub record Anew (settings : Settings) (s : M.Node Addr) : Type 0 where
   pub alive : s .disseminator .alive ≡ []
   pub deceased : s .disseminator .deceased ≡ []
   pub timers : s .timers ≡ []
+  pub departed : s .departed ≡ []
 
 -- "restore of what save wrote gives the list back"
 pub restored-back : (node : Node) (row : List ℕ) (r : Saving) (row′ : List ℕ) → Saves node row r row′ → Whole node → (n : ℕ) → r ≡ saving.Whole n
@@ -185,7 +186,7 @@ restored-back node row r row′ met whole n e settings tick s c told =
             state = state-same here here-lawful (held node) (g .whole) (g .valid);
             number = number-same here here-lawful (held node) (g .whole) (g .valid);
           }),
-      subst (λ (x : M.Node Addr). Anew settings x) (sym h) (record { settings-are = refl; alive = refl; deceased = refl; timers = refl }),
+      subst (λ (x : M.Node Addr). Anew settings x) (sym h) (record { settings-are = refl; alive = refl; deceased = refl; timers = refl; departed = refl }),
     )
   where
     again : (m : Node) (v : Whole m) (k : sound here (storedView m) ≡ true) (c : Settings) → inRange c ≡ true → Good here (restoredNode here c (savedList here (held m)))

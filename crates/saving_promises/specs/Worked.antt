@@ -74,7 +74,7 @@ worked-image-2 = refl
 
 -- "for restore, in this order, 14 .., 15 .., 16 .., then 1": each beside what comes after it, with settings that are out of range
 abbrev pub outside : Settings
-outside = record { «ping_interval» = 1; «ping_timeout» = 1; «ping_req_timeout» = 1; «suspect_timeout» = 1; «ping_req_group_size» = 1; «send_constant» = 3; «max_selected» = 6; «max_size» = 0; collect = false }
+outside = record { «ping_interval» = 1; «ping_timeout» = 1; «ping_req_timeout» = 1; «suspect_timeout» = 1; «ping_req_group_size» = 1; «send_constant» = 3; «max_selected» = 6; «max_size» = 0; collect = false; remember = false }
 
 abbrev pub told : List ℕ → Created Addr
 told bytes = restore here versions bytes outside

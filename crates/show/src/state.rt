@@ -1,5 +1,6 @@
 // A node's state as text.
 use address::Address;
+use departed::Departed;
 use heap::Entry;
 use member::Member;
 use model::Lamps;
@@ -94,6 +95,21 @@ fn put_timers(out: &mut [u8], from: usize, entries: [Timer; 16], n: usize) -> us
     put_byte(out, at, b'\n')
 }
 
+// The departed, oldest last removal first.
+fn put_departed(out: &mut [u8], from: usize, entries: [Departed; 128], n: usize) -> usize
+    requires { ⌜ n ≤ 128 ⌝ }
+{
+    let mut at = from;
+    let mut i = 0;
+    while i < n {
+        let d = entries[i];
+        let start = put_marked_address(out, at, b' ', d.addr);
+        at = put_marked(out, start, b':', d.number);
+        i += 1;
+    }
+    put_byte(out, at, b'\n')
+}
+
 fn put_peer(out: &mut [u8], at: usize, target: Address, number: u64) -> usize {
     let start = put_marked_address(out, at, b' ', target);
     put_marked(out, start, b' ', number)
@@ -159,7 +175,7 @@ fn put_heaps(out: &mut [u8], at: usize, node: Node) -> usize {
     put_heap(out, cross, dead, least(deceased.len, 128))
 }
 
-// The six lines of a state; the lamps are what was read of it.
+// The seven lines of a state; the lamps are what was read of it.
 pub fn put_state(out: &mut [u8], at: usize, node: Node, lamps: Lamps, wait: Wait) -> usize {
     let timers = node.timers;
     let running = timers.entries;
@@ -168,5 +184,9 @@ pub fn put_state(out: &mut [u8], at: usize, node: Node, lamps: Lamps, wait: Wait
     let heaps = put_heaps(out, counts, node);
     let letter = put_byte(out, heaps, b't');
     let third = put_timers(out, letter, running, least(timers.len, 16));
-    put_wait(out, third, wait)
+    let waited = put_wait(out, third, wait);
+    let departed = node.departed;
+    let gone = departed.entries;
+    let last = put_byte(out, waited, b'd');
+    put_departed(out, last, gone, least(departed.len, 128))
 }

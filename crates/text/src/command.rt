@@ -117,26 +117,32 @@ fn ticks_at(s: &[u8], from: usize) -> Ticks {
 // The settings that are words, at the end of such a line.
 pub struct Options {
     pub collect: bool,
+    pub remember: bool,
     pub next: usize,
 }
 
-pub fn options_at(s: &[u8], at: usize) -> Options {
+// The place behind a word, or the same place where another stands.
+fn behind(s: &[u8], at: usize, word: &[u8]) -> usize {
     if at <= s.len() {
         let end = find(s, at, b' ');
-        if check::same(&s[at..end], b"collect") {
-            return Options {
-                collect: true,
-                next: end + 1,
-            };
+        if check::same(&s[at..end], word) {
+            return end + 1;
         }
     }
+    at
+}
+
+pub fn options_at(s: &[u8], at: usize) -> Options {
+    let first = behind(s, at, b"collect");
+    let next = behind(s, first, b"remember");
     Options {
-        collect: false,
-        next: at,
+        collect: at < first,
+        remember: first < next,
+        next,
     }
 }
 
-fn settings_of(values: [u32; 8], collect: bool) -> Settings {
+fn settings_of(values: [u32; 8], collect: bool, remember: bool) -> Settings {
     Settings {
         ping_interval: values[0],
         ping_timeout: values[1],
@@ -147,6 +153,7 @@ fn settings_of(values: [u32; 8], collect: bool) -> Settings {
         max_selected: values[6] as usize,
         max_size: values[7] as usize,
         collect,
+        remember,
     }
 }
 
@@ -178,7 +185,7 @@ fn new_at(s: &[u8], at: usize) -> Head {
         return malformed();
     };
     let options = options_at(s, after_tick);
-    let settings = settings_of(values, options.collect);
+    let settings = settings_of(values, options.collect, options.remember);
     let command = Command::New {
         settings,
         own,
@@ -201,7 +208,7 @@ fn restore_at(s: &[u8], at: usize) -> Head {
     let TickAt::Found { value: tick, next } = tick_at(s, ticks.next) else {
         return malformed();
     };
-    let settings = settings_of(values, false);
+    let settings = settings_of(values, false, false);
     let command = Command::Restore { settings, tick };
     Head { command, next }
 }

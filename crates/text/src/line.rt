@@ -1,5 +1,6 @@
 // A whole line of a script.
 use crate::command::Command;
+use crate::command::Options;
 use crate::command::head_of;
 use crate::command::options_at;
 use crate::records::Records;
@@ -158,11 +159,12 @@ fn with_bytes(command: Command, s: &[u8], at: usize, bytes: &mut [u8]) -> Line {
 }
 
 // A restart with the settings that are words.
-fn chosen(command: Command, collect: bool) -> Command {
+fn chosen(command: Command, options: Options) -> Command {
     let Command::Restore { mut settings, tick } = command else {
         return command;
     };
-    settings.collect = collect;
+    settings.collect = options.collect;
+    settings.remember = options.remember;
     Command::Restore { settings, tick }
 }
 
@@ -177,7 +179,7 @@ fn with_image(command: Command, s: &[u8], at: usize, bytes: &mut [u8]) -> Line {
     }
     let records = no_records();
     Line {
-        command: chosen(command, options.collect),
+        command: chosen(command, options),
         records,
         drawn: 0,
         length,

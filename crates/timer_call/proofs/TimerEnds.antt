@@ -24,13 +24,14 @@ use Rattle.address.specs.Here.{Addr, here, here-lawful}
 use Rattle.model.specs.Words as W
 use Rattle.model.specs.Words.{isAlive}
 use Rattle.model.specs.Members as list
+use Rattle.model.specs.Departed.{departs}
 use Rattle.model.specs.Node as M
 use Rattle.model.specs.Detector as D
 use Rattle.model.specs.Sound.{sound}
 use Rattle.model.specs.Calls.{Outcome, unchanged, refuses, short, keptEnd, reports, endsAt, endTimer}
 use Rattle.laws_node.specs.Good.{Good}
 use Rattle.laws_rules.specs.Keeps.{leave-keeps}
-use Rattle.laws_rules.specs.KeepsCalls.{freed-good, first-over-in}
+use Rattle.laws_rules.specs.KeepsCalls.{every-in, freed-good, first-over-in}
 use Rattle.laws_rules.specs.Judged.{Fated, fated-leaves, fated-alive, fated-greater, fated-absent, fated}
 use Rattle.laws.specs.Packing.{view-length}
 use Rattle.types.specs.declared.Gossip.{Gossip}
@@ -51,9 +52,11 @@ use Rattle.member.specs.declared.Members.{Members}
 use Rattle.member.specs.declared.Standing.{Standing}
 use Rattle.member.specs.Views.{packMembers, viewMembers, standingOf}
 use Rattle.node.specs.declared.Node.{Node}
-use Rattle.node.specs.Views.{viewNode, packNode, storedView, withMembers, withDisseminator, withTimers, silentAnswer, answerOf}
+use Rattle.departed.specs.declared.DepartedRow.{DepartedRow}
+use Rattle.departed.specs.Views.{departedView, packDeparted}
+use Rattle.node.specs.Views.{viewNode, packNode, storedView, withLists, withDisseminator, withTimers, silentAnswer, answerOf}
 use Rattle.node.specs.Rows.{Ready, ready-pack, loaded-view, view-pack}
-use Rattle.node.specs.Parts.{part-members, part-timers}
+use Rattle.node.specs.Parts.{part-lists, part-timers}
 use Rattle.node.specs.Emitting.{emit-full, emit-kept}
 use Rattle.node.specs.Ends.{test-fails, test-passes, unchanged-is, kept-is}
 use Rattle.timer_call.specs.declared.Ended.{Ended}
@@ -190,28 +193,38 @@ module _ (q : Death) where
   less = fewer (q .node) (q .ready) (q .place)
 
   abbrev gone : M.Node Addr
-  gone = M.leave here dead less
+  gone = M.leave here dead (timerAt (q .node) (q .place) .number) less
 
   dead-is : D.timerAt here (q .place) (viewNode (q .node)) ≡ toTimer (timerAt (q .node) (q .place))
   dead-is = timer-is (q .node) (q .ready) (q .place) (q .within)
 
+  dead-valid : here .valid dead ≡ true
+  unfolding viewNode
+  dead-valid =
+      ap (λ (x : W.Timer Addr). here .valid (x .addr)) (sym dead-is)
+      ∙ every-in (λ (x : W.Timer Addr). here .valid (x .addr)) (W.noTimer here) (timersView (q .node .timers)) (q .place)
+      (omega (arith, q .within, view-length toTimer fromTimer (λ b. refl) 16 noTimer (q .node .timers .entries) (q .node .timers .len) (q .ready .timers))) (q .ready .good .timers)
+
   gone-good : Good here gone
   gone-good =
-      leave-keeps here here-lawful dead less (fewer-good (q .node) (q .ready) (q .place))
+      leave-keeps here here-lawful dead (timerAt (q .node) (q .place) .number) less (fewer-good (q .node) (q .ready) (q .place)) dead-valid
       (ap (λ (x : W.Timer Addr). M.lists here (x .addr) less) (sym dead-is) ∙ q .there) .good
 
-  -- of which the code makes the timers and the list
-  abbrev left : Node
-  left = withMembers (withTimers (q .node) (q .timers)) (q .members)
+  -- of which the code makes the timers, the list and the row beside it
+  abbrev left : DepartedRow → Node
+  left r = withLists (withTimers (q .node) (q .timers)) (q .members) r
 
-  gone-is : left ≡ packNode gone
+  abbrev pub remembered : DepartedRow
+  remembered = packDeparted (departs (here .same) dead (timerAt (q .node) (q .place) .number) (viewMembers (q .node .members) .table) (departedView (q .node .departed)))
+
+  gone-is : (r : DepartedRow) → r ≡ remembered → left r ≡ packNode gone
   unfolding viewNode M.leave
-  gone-is =
+  gone-is r remembers =
       let m = withTimers (q .node) (q .timers) in
       let is = fewer-is (q .node) (q .ready) (q .place) (q .timers) (q .timers-is) in
       let good = fewer-good (q .node) (q .ready) (q .place) in
-      part-members m (rw is (ready-pack less good)) (list.remove (here .same) dead (viewNode m .members)) (q .members) (q .members-is)
-      ∙ ap (λ (x : M.Node Addr). packNode (M.leave here dead x)) (ap viewNode is ∙ view-pack less (good .whole))
+      part-lists m (rw is (ready-pack less good)) (list.remove (here .same) dead (viewNode m .members)) _ (q .members) r (q .members-is) remembers
+      ∙ ap (λ (x : M.Node Addr). packNode (M.leave here dead (timerAt (q .node) (q .place) .number) x)) (ap viewNode is ∙ view-pack less (good .whole))
 
   abbrev outcome : Answer (M.Out Addr) → Ended
   outcome x = endedOf (keptEnd here (storedView (q .node)) Leaves (reports here x))
@@ -237,17 +250,18 @@ module _ (q : Death) where
   unfolding viewNode M.leave
   end-full h =
       plain-end (Refused DeceasedFull) (q .node)
-      ∙ sym (ap outcome (ends ∙ emit-full kind.Deceased (toGossip (q .gossip)) [] gone-good gone-is (pushes _ refl) h))
+      ∙ sym (ap outcome (ends ∙ emit-full kind.Deceased (toGossip (q .gossip)) [] gone-good (gone-is remembered refl) (pushes _ refl) h))
 
-  module _ (old : ℕ) (alive : Heap) (old-is : old ≡ collects here on kind.Deceased (toGossip (q .gossip)) (heapView living)) (alive-is : alive ≡ clearedBy old kind.Deceased (toGossip (q .gossip)) living) where
+  module _ (old : ℕ) (alive : Heap) (old-is : old ≡ collects here on kind.Deceased (toGossip (q .gossip)) (heapView living)) (alive-is : alive ≡ clearedBy old kind.Deceased (toGossip (q .gossip)) living)
+      (r : DepartedRow) (remembers : r ≡ remembered) where
     abbrev after : Node
-    after = withDisseminator left (record { alive = alive; deceased = q .pushed .heap })
+    after = withDisseminator (left r) (record { alive = alive; deceased = q .pushed .heap })
 
     pub end-kept : q .pushed .full ≡ false → saidEnd after (q .gossip) old ≡ endedBy Leaves (q .node) (q .place)
     unfolding viewNode M.leave
     end-kept h =
         let e = alive-is ∙ ap (λ (n : ℕ). clearedBy n kind.Deceased (toGossip (q .gossip)) living) old-is in
-        let k = emit-kept kind.Deceased (toGossip (q .gossip)) [] gone-good gone-is (pushes alive e) h in
+        let k = emit-kept kind.Deceased (toGossip (q .gossip)) [] gone-good (gone-is r remembers) (pushes alive e) h in
         ap (saidEnd after (q .gossip)) old-is ∙ said-end (k .after) after (q .gossip) _ (k .node) ∙ sym (ap outcome (ends ∙ k .is))
 
 -- "a timer call 0 and 1": the row of events alone can be short

@@ -107,12 +107,14 @@ fn remove_at(node: Node, place: usize) -> Ended
     let old = collect::old_news(settings.collect, held, Kind::Deceased, gossip);
     let alive = collect::clear(held, old, Kind::Deceased, gossip);
     let deceased = pushed.heap;
+    let departed = node.departed.leave(members, timer.addr, timer.number);
     let said = Node {
         settings,
         own,
         members: left,
         disseminator: Disseminator { alive, deceased },
         timers: after,
+        departed,
     };
     let events = [gossip; Ended::EVENTS];
     Ended {

@@ -8,11 +8,14 @@
 //   a PLACE KIND FROM SUBJECT NUMBER SENDS SIZE LENGTH      an entry of the alive heap, and its length
 //   x ..                     the same of the deceased heap
 //   t PLACE ADDRESS NUMBER TICK LENGTH  a timer, and how many run
+//   d PLACE ADDRESS NUMBER LENGTH       a departed address, and how many there are
 use crate::made::alive_at;
 use crate::made::at;
 use crate::made::deceased_at;
+use crate::made::departed_at;
 use crate::made::entry;
 use crate::made::lamps;
+use crate::made::left;
 use crate::made::listed;
 use crate::made::lit;
 use crate::made::member;
@@ -68,6 +71,7 @@ pub fn changed(node: Node, s: &[u8]) -> Node {
         b'a' => changed_heap(node, letter, v),
         b'x' => changed_heap(node, letter, v),
         b't' => timer_at(node, first, timer(at(v[1]), v[2], v[3]), v[4] as usize),
+        b'd' => departed_at(node, first, left(at(v[1]), v[2]), v[3] as usize),
         _ => node,
     }
 }

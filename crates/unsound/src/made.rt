@@ -1,5 +1,7 @@
 // A sound node, and nodes with one part of it replaced.
 use address::Address;
+use departed::Departed;
+use departed::DepartedRow;
 use disseminate::Disseminator;
 use heap::Entry;
 use heap::Heap;
@@ -26,6 +28,7 @@ fn settings() -> Settings {
         max_selected: 6,
         max_size: 1169,
         collect: false,
+        remember: false,
     }
 }
 
@@ -139,6 +142,18 @@ fn running() -> Timers {
     Timers { entries, len: 2 }
 }
 
+pub fn left(addr: Address, number: u64) -> Departed {
+    Departed { addr, number }
+}
+
+// The departed stand with the oldest last removal first, which isn't checked.
+fn gone() -> DepartedRow {
+    let mut entries = [Departed::empty(); 128];
+    entries[0] = left(at(3), 0);
+    entries[1] = left(at(2), 4);
+    DepartedRow { entries, len: 2 }
+}
+
 pub fn sound() -> Node {
     let settings = settings();
     let members = list();
@@ -146,12 +161,14 @@ pub fn sound() -> Node {
     let deceased = dead();
     let disseminator = Disseminator { alive, deceased };
     let timers = running();
+    let departed = gone();
     Node {
         settings,
         own: at(1),
         members,
         disseminator,
         timers,
+        departed,
     }
 }
 
@@ -285,5 +302,16 @@ pub fn timer_at(mut node: Node, place: usize, timer: Timer, len: usize) -> Node 
     }
     let changed = Timers { entries, len };
     node.timers = changed;
+    node
+}
+
+pub fn departed_at(mut node: Node, place: usize, departed: Departed, len: usize) -> Node {
+    let row = node.departed;
+    let mut entries = row.entries;
+    if place < 128 {
+        entries[place] = departed;
+    }
+    let changed = DepartedRow { entries, len };
+    node.departed = changed;
     node
 }

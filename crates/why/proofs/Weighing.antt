@@ -60,14 +60,14 @@ stop-there n r v draws =
     (heapStop w (sym (view-length (n .disseminator .alive) (r .heaps .alive)) i - old) (sym (view-length (n .disseminator .deceased) (r .heaps .deceased)) i))
 
 -- an event, its parts, D and the verdict, as the code has them
-module _ (n : Node) (e : Event) (ds : List ℕ) (p : Parts) (d : Found) (v : Verdict) (is-p : p ≡ fromParts (W.partsOf here (toEvent e))) (is-d : d ≡ fromFound (death here (p .subject) (heapView (n .disseminator .deceased))))
+module _ (n : Node) (e : Event) (ds : List ℕ) (p : Parts) (d : Found) (v : Verdict) (is-p : p ≡ fromParts (W.partsOf here (toEvent e))) (is-d : d ≡ fromFound (M.heldDeath here (p .subject) (viewNode n)))
     (is-v : v ≡ fromVerdict (handler.judge here (n .own) (viewMembers (n .members) .table) (toFound d) (toEvent e))) where
   parts-is : toParts p ≡ W.partsOf here (toEvent e)
   parts-is = ap toParts is-p
 
   found-is : d ≡ fromFound (M.heldDeath here (W.partsOf here (toEvent e) .subject) (viewNode n))
   unfolding viewNode
-  found-is = is-d ∙ ap (λ (q : W.Parts Addr). fromFound (death here (q .subject) (heapView (n .disseminator .deceased)))) parts-is
+  found-is = is-d ∙ ap (λ (q : W.Parts Addr). fromFound (M.heldDeath here (q .subject) (viewNode n))) parts-is
 
   dead-is : toFound d ≡ M.heldDeath here (W.partsOf here (toEvent e) .subject) (viewNode n)
   dead-is = ap toFound found-is ∙ to-from-found (M.heldDeath here (W.partsOf here (toEvent e) .subject) (viewNode n))

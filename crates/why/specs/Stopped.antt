@@ -119,15 +119,15 @@ tell-stops (handler.Emits kind.Alive e) s ds =
     push-stops (leb heap-places (length (cleared here on kind.Alive g h))) _ _ ds _ ∙ ap (λ (n : ℕ). pick (leb heap-places n) (stop.By (fullOf kind.Alive)) stop.Nothing) room
 tell-stops (handler.Emits kind.Deceased e) s ds = push-stops (leb heap-places (length (s .disseminator .deceased))) _ _ ds _
 
-then-stops : (x : Answer (list.Members Addr)) (w : handler.News Addr) (s : M.Node Addr)
-    → stopIn (andThen x λ m rest. handler.tell here w (M.withMembers s m) rest) ≡ orStop (stopIn x) (heapsStop w s)
-then-stops (refused r) w s = refl
-then-stops (done m rest) w s = tell-stops w (M.withMembers s m) rest
+then-stops : (x : Answer (list.Members Addr)) (w : handler.News Addr) (s : M.Node Addr) (gone : List (W.Departed Addr))
+    → stopIn (andThen x λ m rest. handler.tell here w (M.withLists s m gone) rest) ≡ orStop (stopIn x) (heapsStop w s)
+then-stops (refused r) w s gone = refl
+then-stops (done m rest) w s gone = tell-stops w (M.withLists s m gone) rest
 
 pub act-stops : (v : handler.Verdict Addr) (s : M.Node Addr) (ds : List ℕ) → stopIn (handler.act here v s ds) ≡ stopOf s v (length ds)
 unfolding handler.act
 act-stops v s ds =
-    then-stops (handler.listAfter here v (s .members) ds) (handler.newsOf here v (s .own)) s
+    then-stops (handler.listAfter here v (s .members) ds) (handler.newsOf here v (s .own)) s (handler.rowAfter here v (s .members .table) (s .departed))
     ∙ ap (λ (x : Stop). orStop x (heapsStop (handler.newsOf here v (s .own)) s)) (list-stops v (s .members) ds)
 
 unless-stopped : {B : Type 0} (x : Answer B) (g : Grounds) → unlessRefused x g ≡ unlessStopped (stopIn x) g

@@ -201,7 +201,12 @@ fn weigh(node: Node, draws: &[u64], g: Gossip) -> Grounds
     let event = g.event;
     let parts = types::parts_of(event);
     let members = node.members;
-    let dead = disseminate::is_deceased(node.disseminator.deceased, parts.subject);
+    let dead = departed::death_of(
+        node.settings.remember,
+        node.departed,
+        node.disseminator.deceased,
+        parts.subject,
+    );
     let verdict = rules::judge(members, node.own, dead, event);
     let stop = stop_of(node, verdict, draws.len());
     match stop {

@@ -24,7 +24,7 @@ use Rattle.model.specs.Choose.{entryOf}
 use Rattle.model.specs.Collect.{collects}
 use Rattle.model.specs.Members as list
 use Rattle.model.specs.Node as M
-use Rattle.model.specs.Node.{Node, Out, withMembers, withDisseminator, withHeap, heapOf, collecting, lists, stateOf, heldDeath}
+use Rattle.model.specs.Node.{Node, Out, withMembers, withDisseminator, withHeap, heapOf, collecting, lists, stateOf, heldDeath, leave}
 use Rattle.model.specs.Handler as handler
 use Rattle.laws.specs.Bools.{none-some}
 use Rattle.laws_rules.specs.Judged.{Judged, Believed, of-alive, of-other, skipped, joined-at-end, joined-low, joined-raises, joined-enters, recovered-unknown, recovered-low, recovered-recovers, own-at-end, own-refutes, suspected-unknown, suspected-equal, suspected-low, suspected-suspects, deceased-unknown, deceased-low, deceased-buries}
@@ -84,7 +84,7 @@ module _ {A : Type 0} (address : Address A) where
       (record { out = spoken kind.Alive (Joined (s .own) a m) (withMembers s (list.added (address .same) a m (getD ds 0 0) (s .members))); left = drop 1 ds })
   accepts (Recovered f a n) m s ds = record { out = spoken kind.Alive (Recovered (s .own) a m) (keptAs a state.Alive m s); left = ds }
   accepts (Suspected f a n) m s ds = record { out = spoken kind.Alive (Suspected (s .own) a m) (keptAs a state.Suspected m s); left = ds }
-  accepts (Deceased f a n) m s ds = record { out = spoken kind.Deceased (Deceased (s .own) a m) (withMembers s (list.remove (address .same) a (s .members))); left = ds }
+  accepts (Deceased f a n) m s ds = record { out = spoken kind.Deceased (Deceased (s .own) a m) (leave address a m s); left = ds }
 
   -- what each reason says that the handler does
   abbrev pub acting : Reason → Option ℕ → Event A → Node A → List ℕ → Deed A
@@ -136,7 +136,7 @@ module _ {A : Type 0} (address : Address A) (s : Node A) (ds : List ℕ) where
 
   enter-goes : (a : A) (n : ℕ) → Went (handler.act address (handler.Enter a n) s ds)
       → handler.act address (handler.Enter a n) s ds ≡ done (spoken address kind.Alive (Joined (s .own) a n) (withMembers s (list.added (address .same) a n (getD ds 0 0) (s .members)))) (drop 1 ds)
-  unfolding handler.act handler.listAfter handler.newsOf list.add
+  unfolding handler.act handler.listAfter handler.rowAfter handler.newsOf list.add
   enter-goes a n h =
       let e = added-goes (leb list-places (length (s .members .table))) ds (λ d. list.added (address .same) a n d (s .members)) (λ m rest. handler.tell address (handler.Emits kind.Alive (Joined (s .own) a n)) (withMembers s m) rest) h in
       e ∙ emit-goes kind.Alive (Joined (s .own) a n) (withMembers s (list.added (address .same) a n (getD ds 0 0) (s .members))) (drop 1 ds) (subst Went e h)
@@ -148,7 +148,7 @@ module _ {A : Type 0} (address : Address A) (s : Node A) (ds : List ℕ) where
       Went (handler.act address v s ds) → Holds address (s .own) (s .members .table) d r e × (handler.act address v s ds ≡ done (acting address r d e s ds .out) (acting address r d e s ds .left))
 
   pub does : (e : Event A) (v : handler.Verdict A) → Judged address (s .own) (s .members .table) (heldDeath address (partsOf address e .subject) s) e v → Does e (reasonOf v (numberIn e)) v
-  unfolding partsOf reasonOf handler.act handler.listAfter handler.newsOf M.quiet
+  unfolding partsOf reasonOf handler.act handler.listAfter handler.rowAfter handler.newsOf M.quiet M.leave
   does _ _ skipped = λ h. (no-event, refl)
   does _ _ (joined-at-end e) = λ h. absurd h
   does _ _ (joined-low {a = a} {n = n} least e l q) = λ h. (low-joined {n = n} l (rw (least-is (heldDeath address a s) least e) q), refl)

@@ -12,7 +12,7 @@ use Rattle.model.specs.declared.State.the-variants as state
 use Rattle.model.specs.Rows.{pick, has}
 use Rattle.model.specs.Words.{Address, Lawful, Member, Event, Joined, Recovered, Suspected, Deceased}
 use Rattle.model.specs.Members as list
-use Rattle.model.specs.Node.{Node, lists, numbered, stateOf}
+use Rattle.model.specs.Node.{Node, lists, numbered, stateOf, leave}
 use borrow.Author.Tests.{not-false}
 use Rattle.laws_node.specs.Good.{FullRows, sound-good}
 use Rattle.address.specs.Here.{Addr, here, here-lawful}
@@ -114,6 +114,7 @@ module _ {A : Type 0} (address : Address A) (lawful : Lawful address) (s : Node 
 
     -- by `accepted` at the event's own number
     pub accepted-stored : (e : Event A) → IsAccepted address (s .own) (s .members .table) d e → Stores address s (numberIn e) (after (acting address reason.Accepted d e s ds)) e
+    unfolding leave
     accepted-stored _ (accepted-joined {f = f} {a = a} {n = n} h b) = joined-kept f a n n (below d n b) h
     accepted-stored _ (accepted-recovered (higher-recovered {a = a} {n = n} l h)) = recovered-stores (kept-stands a state.Alive n l (omega (arith, h)))
     accepted-stored _ (accepted-suspected (alive-suspected {a = a} {n = n} o l u h)) = suspected-stores (kept-stands a state.Suspected n l h)

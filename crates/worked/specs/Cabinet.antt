@@ -45,6 +45,7 @@ settings =
       «max_selected» = 6;
       «max_size» = 1169;
       collect = false;
+      remember = false;
     }
 
 abbrev pub member : ℕ → State → ℕ → Member ℕ
@@ -59,7 +60,7 @@ order o p = members [] o p
 
 abbrev pub node : Members ℕ → List (Entry ℕ) → List (Entry ℕ) → Node ℕ
 node m alive deceased =
-    record { settings = settings; own = own; members = m; disseminator = record { alive = alive; deceased = deceased }; timers = [] }
+    record { settings = settings; own = own; members = m; disseminator = record { alive = alive; deceased = deceased }; timers = []; departed = [] }
 
 -- own at 0, and B
 abbrev pub withB : State → ℕ → Node ℕ

@@ -18,6 +18,7 @@ use Rattle.model.specs.Heap.{climbIn, climb, push, pushAll}
 use Rattle.model.specs.Choose.{entryOf, death, orElse}
 use Rattle.model.specs.Members.{added, add, remove, update}
 use Rattle.model.specs.Collect.{isOld, collects, rebuilt, cleared}
+use Rattle.model.specs.Departed.{lookUp, deathOf}
 use Rattle.model.specs.Node.{Node, Disseminator, Out, quiet, andMore, pushed, emit, change, leave}
 use Rattle.model.specs.Handler.{believed, suspectedOther, suspected, deceased, listAfter, newsOf, act, item, admit, judgeSender, gossip}
 use Rattle.model.specs.Detector.{suspect, fateOf, endAt, byFate}
@@ -91,6 +92,7 @@ collecting on =
       «max_selected» = settings .«max_selected»;
       «max_size» = settings .«max_size»;
       collect = on;
+      remember = false;
     }
 
 -- own and B, with a timer of B at 2, and heaps
@@ -102,6 +104,7 @@ spreads on st alive deceased =
       members = members (member own state.Alive 0 ∷ member B st 2 ∷ []) (own ∷ B ∷ []) 0;
       disseminator = record { alive = alive; deceased = deceased };
       timers = record { addr = B; number = 2; since = 0 } ∷ [];
+      departed = [];
     }
 
 -- B has left
@@ -113,6 +116,7 @@ without alive deceased =
       members = members (member own state.Alive 0 ∷ []) (own ∷ []) 0;
       disseminator = record { alive = alive; deceased = deceased };
       timers = [];
+      departed = [];
     }
 
 -- deaths of B, sent once
@@ -156,5 +160,5 @@ rules =
     ∷ []
 
 pub by-each-rule : All rules
-unfolding when swap count those partsOf climbIn climb push pushAll added add remove update isOld collects rebuilt cleared quiet andMore pushed emit change leave believed suspectedOther suspected deceased listAfter newsOf act item admit judgeSender suspect fateOf endAt byFate death orElse
+unfolding when swap count those partsOf climbIn climb push pushAll added add remove update isOld collects rebuilt cleared quiet andMore pushed emit change leave believed suspectedOther suspected deceased listAfter newsOf act item admit judgeSender suspect fateOf endAt byFate death orElse lookUp deathOf
 by-each-rule = refl and refl and refl and refl and refl and refl and refl and refl and refl and refl and refl and refl and end

@@ -21,6 +21,7 @@ use Rattle.model.specs.Choose as choosing
 use Rattle.model.specs.Collect as collecting
 use Rattle.model.specs.Lamps as lamps
 use Rattle.model.specs.Members as list
+use Rattle.model.specs.Departed as gone
 use Rattle.model.specs.Node as M
 use Rattle.model.specs.Handler as handler
 use Rattle.model.specs.Detector as D
@@ -121,5 +122,5 @@ pub worked-day : follow day (start ipv4 (Creation settings own 0) 0) (begun ipv4
     ∷ (counted 2 2 7 false 0)
     ∷ (counted 2 2 7 false 0)
     ∷ []
-unfolding answers.when rows.swap limit.leastFrom limit.leastPower limit.limitOf size.varintFrom size.varintLength size.numberSize size.sizeOver size.sizeOf ipv4.digits ipv4.textLength words.partsOf words.sameGossip heap.climbIn heap.climb heap.lower heap.downIn heap.down heap.push heap.sinkTop heap.removeTop heap.allBelow choosing.termsOf choosing.wasNoted choosing.takeTop choosing.tryHeap choosing.tryAlive choosing.tryDeceased choosing.over choosing.rounds choosing.choose choosing.orElse choosing.death list.shuffle list.advance list.added list.add list.remove list.update list.seek list.pickFrom M.quiet M.andMore collecting.collects collecting.cleared M.pushed M.emit M.change M.leave M.spread M.loaded M.stored M.fresh handler.joinedAt handler.joined handler.recovered handler.believed handler.suspectedOther handler.suspected handler.deceased handler.judgeSender handler.listAfter handler.newsOf handler.act handler.item handler.admit handler.acked handler.answerTo handler.forwarded handler.handle D.isOver D.due D.pinged D.sendPing D.heard D.waited D.suspect D.asked D.pickGroup D.sendPingReq D.declare D.firstOver D.fateOf D.byFate D.endAt sounds.inRange sounds.positioned sounds.validGossip sounds.soundEntry sounds.soundHeap sounds.soundRows sounds.soundMembers sounds.soundTimers sounds.sound lamps.lampsOf calls.create calls.addPeer calls.validAction calls.validState calls.message calls.detect calls.endTimer
+unfolding answers.when rows.swap limit.leastFrom limit.leastPower limit.limitOf size.varintFrom size.varintLength size.numberSize size.sizeOver size.sizeOf ipv4.digits ipv4.textLength words.partsOf words.sameGossip heap.climbIn heap.climb heap.lower heap.downIn heap.down heap.push heap.sinkTop heap.removeTop heap.allBelow choosing.termsOf choosing.wasNoted choosing.takeTop choosing.tryHeap choosing.tryAlive choosing.tryDeceased choosing.over choosing.rounds choosing.choose choosing.orElse choosing.death list.shuffle list.advance list.added list.add list.remove list.update list.seek list.pickFrom M.quiet M.andMore collecting.collects collecting.cleared M.pushed M.emit M.change M.leave M.spread M.loaded M.stored M.fresh handler.joinedAt handler.joined handler.recovered handler.believed handler.suspectedOther handler.suspected handler.deceased handler.judgeSender gone.makeRoom gone.lookUp gone.without gone.depart gone.departs gone.deathOf handler.listAfter handler.rowAfter handler.newsOf handler.act handler.item handler.admit handler.acked handler.answerTo handler.forwarded handler.handle D.isOver D.due D.pinged D.sendPing D.heard D.waited D.suspect D.asked D.pickGroup D.sendPingReq D.declare D.firstOver D.fateOf D.byFate D.endAt sounds.inRange sounds.positioned sounds.validGossip sounds.soundEntry sounds.soundHeap sounds.soundRows sounds.soundMembers sounds.soundTimers sounds.soundDeparted sounds.sound lamps.lampsOf calls.create calls.addPeer calls.validAction calls.validState calls.message calls.detect calls.endTimer
 worked-day = refl

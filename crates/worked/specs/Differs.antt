@@ -27,10 +27,11 @@ use Rattle.model.specs.Choose.{termsOf, wasNoted, takeTop, tryHeap, tryAlive, t
 use Rattle.model.specs.Members.{Members, shuffle, advance, added, add, remove, update, seek, pickFrom}
 use Rattle.model.specs.Lamps.{lampsOf}
 use Rattle.model.specs.Collect.{collects, cleared}
+use Rattle.model.specs.Departed.{makeRoom, lookUp, without, depart, departs, deathOf}
 use Rattle.model.specs.Node.{Node, Out, stored, loaded, withDisseminator, withTimers, quiet, andMore, pushed, emit, change, leave, spread}
-use Rattle.model.specs.Handler.{Enter, judgeSender, listAfter, newsOf, act, joinedAt, joined, recovered, believed, suspectedOther, suspected, deceased, item, gossip, causeAt, stopsAt, admit, answerTo, handle}
+use Rattle.model.specs.Handler.{Enter, judgeSender, listAfter, rowAfter, newsOf, act, joinedAt, joined, recovered, believed, suspectedOther, suspected, deceased, item, gossip, causeAt, stopsAt, admit, answerTo, handle}
 use Rattle.model.specs.Detector.{Stepped, isOver, due, enters, pinged, sendPing, heard, waited, suspect, asked, pickGroup, sendPingReq, declare, fateOf, byFate, endAt}
-use Rattle.model.specs.Sound.{inRange, positioned, validGossip, soundEntry, soundHeap, soundRows, soundMembers, soundTimers, sound}
+use Rattle.model.specs.Sound.{inRange, positioned, validGossip, soundEntry, soundHeap, soundRows, soundMembers, soundTimers, soundDeparted, sound}
 use Rattle.model.specs.Calls.{packed, validAction, validState, addPeer, message, detect, endTimer}
 use Rattle.worked.specs.Cabinet.{own, B, C, host, says, member, members, node, withB, ruleOf}
 use Rattle.worked.specs.Seen.{sameNumbers, told-apart, told-equal}
@@ -286,10 +287,10 @@ all-told (w ∷ ws) e = let p = and-split (told w) (allTold ws) e in both w (p .
         (told-apart (run program far) (run rule far) (p .0), told-equal (run program near) (run rule near) (p .1))
 
 pub differ : All wrongs
-unfolding when swap leastFrom leastPower limitOf varintFrom varintLength numberSize sizeOver sizeOf digits textLength partsOf sameGossip climbIn climb lower downIn down push sinkTop removeTop allBelow termsOf wasNoted takeTop tryHeap tryAlive tryDeceased over rounds choose orElse death shuffle advance added add remove update seek pickFrom stored loaded quiet andMore collects cleared pushed emit change leave spread joinedAt joined recovered believed suspectedOther suspected deceased judgeSender listAfter newsOf act item causeAt stopsAt admit answerTo handle isOver due pinged sendPing heard waited suspect asked pickGroup sendPingReq declare fateOf byFate endAt inRange positioned validGossip soundEntry soundHeap soundRows soundMembers soundTimers sound lampsOf validAction validState addPeer message detect endTimer
+unfolding when swap leastFrom leastPower limitOf varintFrom varintLength numberSize sizeOver sizeOf digits textLength partsOf sameGossip climbIn climb lower downIn down push sinkTop removeTop allBelow termsOf wasNoted takeTop tryHeap tryAlive tryDeceased over rounds choose orElse death shuffle advance added add remove update seek pickFrom stored loaded quiet andMore collects cleared pushed emit change leave spread joinedAt joined recovered believed suspectedOther suspected deceased judgeSender makeRoom lookUp without depart departs deathOf listAfter rowAfter newsOf act item causeAt stopsAt admit answerTo handle isOver due pinged sendPing heard waited suspect asked pickGroup sendPingReq declare fateOf byFate endAt inRange positioned validGossip soundEntry soundHeap soundRows soundMembers soundTimers soundDeparted sound lampsOf validAction validState addPeer message detect endTimer
 differ = all-told wrongs refl
 
 -- and each contract admits these inputs, since each node is sound
 pub inputs-sound : every (λ s. sound ipv4 (stored ipv4 s)) inputs ≡ true
-unfolding varintFrom varintLength numberSize sizeOver sizeOf digits textLength partsOf allBelow stored inRange positioned validGossip soundEntry soundHeap soundRows soundMembers soundTimers sound lampsOf
+unfolding varintFrom varintLength numberSize sizeOver sizeOf digits textLength partsOf allBelow stored inRange positioned validGossip soundEntry soundHeap soundRows soundMembers soundTimers soundDeparted sound lampsOf
 inputs-sound = refl

@@ -9,4 +9,5 @@ pub mod Wrong
 pub mod Differs
 pub mod Clock
 pub mod Collected
+pub mod Remembered
 pub mod Texts

@@ -15,11 +15,12 @@ use Rattle.worked.specs.Numbered.{ipv4}
 use Rattle.address.specs.IPv4.{digits, textLength}
 use Rattle.model.specs.Words.{Gossip, Action, Joined, Suspected, Deceased, Ping, PingReq, Ack, Message, SendingPing, WaitingForPingAck, SendingPingReq, WaitingForPingReqAck, Declaring, partsOf, sameGossip}
 use Rattle.model.specs.Heap.{climbIn, climb, lower, downIn, down, push, sinkTop, removeTop}
-use Rattle.model.specs.Choose.{termsOf, wasNoted, takeTop, tryHeap, tryAlive, tryDeceased, over, rounds, choose, death}
+use Rattle.model.specs.Choose.{termsOf, wasNoted, takeTop, tryHeap, tryAlive, tryDeceased, over, rounds, choose, orElse, death}
 use Rattle.model.specs.Members.{shuffle, advance, added, add, remove, update, seek, pickFrom}
 use Rattle.model.specs.Collect.{collects, cleared}
+use Rattle.model.specs.Departed.{makeRoom, lookUp, without, depart, departs, deathOf}
 use Rattle.model.specs.Node.{Node, quiet, andMore, pushed, emit, change, leave, spread, numbered, fresh}
-use Rattle.model.specs.Handler.{believed, joined, recovered, suspectedOther, suspected, deceased, listAfter, newsOf, act, item, admit, judgeSender, judge, joinedAt, answerTo, forwarded, handle}
+use Rattle.model.specs.Handler.{believed, joined, recovered, suspectedOther, suspected, deceased, listAfter, rowAfter, newsOf, act, item, admit, judgeSender, judge, joinedAt, answerTo, forwarded, handle}
 use Rattle.model.specs.Detector.{waitOf, heard, pinged, sendPing, suspect, asked, pickGroup, sendPingReq, declare}
 use Rattle.model.specs.Calls.{validState, validAction}
 use Rattle.worked.specs.Cabinet.{own, B, C, says, settings, member, members, node, withB, ofGiven, ruleOf}
@@ -39,7 +40,7 @@ sends action gs = ofGiven (λ e. e .messages) (handle ipv4 action gs (withB stat
 
 -- waits that differ
 abbrev waits : Settings
-waits = record { «ping_interval» = 1; «ping_timeout» = 2; «ping_req_timeout» = 3; «suspect_timeout» = 4; «ping_req_group_size» = 1; «send_constant» = 3; «max_selected» = 6; «max_size» = 1169; collect = false }
+waits = record { «ping_interval» = 1; «ping_timeout» = 2; «ping_req_timeout» = 3; «suspect_timeout» = 4; «ping_req_group_size» = 1; «send_constant» = 3; «max_selected» = 6; «max_size» = 1169; collect = false; remember = false }
 
 -- one past the last address
 abbrev past : ℕ
@@ -87,7 +88,7 @@ table =
     ∷ []
 
 pub sent : All table
-unfolding when swap leastFrom leastPower limitOf varintFrom varintLength numberSize sizeOver sizeOf digits textLength partsOf sameGossip climbIn climb lower downIn down push sinkTop removeTop termsOf wasNoted takeTop tryHeap tryAlive tryDeceased over rounds choose shuffle advance added add remove update seek pickFrom quiet andMore collects cleared pushed emit change leave spread fresh joined recovered believed suspectedOther suspected deceased listAfter newsOf act item admit judgeSender joinedAt answerTo forwarded handle heard pinged sendPing suspect asked pickGroup sendPingReq declare validAction validState death
+unfolding when swap leastFrom leastPower limitOf varintFrom varintLength numberSize sizeOver sizeOf digits textLength partsOf sameGossip climbIn climb lower downIn down push sinkTop removeTop termsOf wasNoted takeTop tryHeap tryAlive tryDeceased over rounds choose orElse shuffle advance added add remove update seek pickFrom quiet andMore collects cleared pushed emit change leave spread fresh joined recovered believed suspectedOther suspected deceased makeRoom lookUp without depart departs deathOf listAfter rowAfter newsOf act item admit judgeSender joinedAt answerTo forwarded handle heard pinged sendPing suspect asked pickGroup sendPingReq declare validAction validState death
 sent =
     refl and refl and refl and refl and refl and refl and refl and refl and refl and refl and refl and refl and refl
     and refl and refl and refl and refl and refl and refl and refl and refl and refl and refl and refl and refl and refl and end

@@ -384,7 +384,7 @@ ownRecordMoved a n s ds =
 abbrev pub ownIsSpared : ℕ → ℕ → Node ℕ → List ℕ → Answer (Out ℕ)
 ownIsSpared a n s ds =
     when (lists ipv4 a s && leb (numbered ipv4 a s) n && not (eqb (s .own) a))
-    (emit ipv4 kind.Deceased (record { event = Deceased (s .own) a n }) (leave ipv4 a s) ds)
+    (emit ipv4 kind.Deceased (record { event = Deceased (s .own) a n }) (leave ipv4 a n s) ds)
     (quiet s ds)
 
 -- the records behind one of no event are not read
@@ -497,16 +497,16 @@ pingedElsewhere now gs s (a ∷ rest) =
 abbrev pub suspicionRemoves : ℕ → ℕ → Node ℕ → List ℕ → Answer (Out ℕ)
 suspicionRemoves a n s ds =
     when (lists ipv4 a s && leb (numbered ipv4 a s) n)
-    (emit ipv4 kind.Alive (record { event = Suspected (s .own) a n }) (leave ipv4 a s) ds)
+    (emit ipv4 kind.Alive (record { event = Suspected (s .own) a n }) (leave ipv4 a n s) ds)
     (quiet s ds)
 
 -- a death notice takes a peer out at a number one too low, or at any number
 abbrev pub olderDeathTaken : ℕ → ℕ → Node ℕ → List ℕ → Answer (Out ℕ)
 olderDeathTaken a n s ds =
     when (lists ipv4 a s && leb (numbered ipv4 a s) (n + 1))
-    (emit ipv4 kind.Deceased (record { event = Deceased (s .own) a n }) (leave ipv4 a s) ds)
+    (emit ipv4 kind.Deceased (record { event = Deceased (s .own) a n }) (leave ipv4 a n s) ds)
     (quiet s ds)
 
 abbrev pub anyDeathTaken : ℕ → ℕ → Node ℕ → List ℕ → Answer (Out ℕ)
 anyDeathTaken a n s ds =
-    when (lists ipv4 a s) (emit ipv4 kind.Deceased (record { event = Deceased (s .own) a n }) (leave ipv4 a s) ds) (quiet s ds)
+    when (lists ipv4 a s) (emit ipv4 kind.Deceased (record { event = Deceased (s .own) a n }) (leave ipv4 a n s) ds) (quiet s ds)

@@ -43,7 +43,7 @@ get-member-list-requires c κs =
 
 ask-group-requires : tie.Need-ask-group-requires
 ask-group-requires c κs =
-    let d = c .before .before .before .before .before in
+    let d = c .before .before .before .before .before .before in
     let k = d .before .before .before .before in
     let o = k .before in
     let p = o .before in (
@@ -54,7 +54,7 @@ ask-group-requires c κs =
 returns-2 : tie.Need-returns-2
 returns-2 c =
     let t = c .before in
-    let d = t .before .before .before .before .before in
+    let d = t .before .before .before .before .before .before in
     let k = d .before .before .before .before in
     let o = k .before in
     let p = o .before in

@@ -13,15 +13,16 @@ returns c =
 
 returns-2 : tie.Need-returns-2
 returns-2 c =
-    let a = c .before .before .before .before .before .before .before .before .args in
-    (λ i. record { answer = c .before .plain .ensures i; wait = c .new3 .ensures i })
-    ∙ set-up-done (a .loaded) (a .settings) (a .tick) _ _ (c .before .before .before .before .before .before .before .in-range .ensures) (c .before .before .before .before .before .before .if1 .left)
+    let a = c .before .before .before .before .before .before .before .before .before .args in
+    (λ i. record { answer = c .before .plain .ensures i; wait = c .new4 .ensures i })
+    ∙ set-up-done (a .loaded) (a .settings) (a .tick) _ _ (c .before .before .before .before .before .before .before .before .in-range .ensures) (c .before .before .before .before .before .before .before .if1 .left)
     (λ i. record {
       settings = a .settings;
       own = a .loaded .own;
-      members = c .before .before .before .before .members-of .ensures i;
-      disseminator = c .before .before .before .new .ensures i;
-      timers = c .before .before .new2 .ensures i;
+      members = c .before .before .before .before .before .members-of .ensures i;
+      disseminator = c .before .before .before .before .new .ensures i;
+      timers = c .before .before .before .new2 .ensures i;
+      departed = c .before .before .new3 .ensures i;
     })
 
 pub set-up-spec : {M : Type 1} → statement M
@@ -31,6 +32,7 @@ set-up-spec =
     (λ c κs. search needs)
     (λ c κs. search needs)
     returns
+    (λ c κs. search needs)
     (λ c κs. search needs)
     (λ c κs. search needs)
     (λ c κs. search needs)

@@ -37,12 +37,13 @@ returns c = (c .plain .ensures ∙ end-full (death (c .before .before)) (c .befo
 
 returns-2 : tie.Need-returns-2
 returns-2 c =
-    let k = c .before .before in
+    let l = c .before in
+    let k = l .before .before in
     let n = k .before in
     let o = n .before .before .before .before in
     let q = death (o .before) in (
       (λ i. record { answer = c .silent .ensures i; events = q .gossip ∷ []; reported = 1 })
-          ∙ end-kept q (n .old-news .result) (k .clear .result) (n .old-news .ensures .0) (k .clear .ensures) (o .if1 .left),
+          ∙ end-kept q (n .old-news .result) (k .clear .result) (n .old-news .ensures .0) (k .clear .ensures) (l .leave .result) (l .leave .ensures) (o .if1 .left),
       omega arith,
     )
 
@@ -60,5 +61,6 @@ remove-at-spec =
     returns
     (λ c κs. let s = c .before .before .before .before .before .before .before .before .before .before .before .before in s .pre .0 .heaps .alive)
     (λ c κs. let s = c .before .before .before .before .before .before .before .before .before .before .before .before .before in s .pre .0 .heaps .alive)
+    (λ c κs. let s = c .before .before .before .before .before .before .before .before .before .before .before .before .before .before .before in (s .pre .0 .departed, s .pre .0 .members))
     (λ c κs. search needs)
     returns-2)

@@ -24,16 +24,17 @@ abbrev reason-there : tie.After-stop-of → Stop → Grounds
 reason-there c x =
     let j = c .before in
     let d = j .before in
-    unlessStopped x (partsGrounds (viewMembers (start c .args .node .members) .table) (toParts (d .before .before .parts-of .result)) (d .is-deceased .result) (toVerdict (j .judge .result)))
+    unlessStopped x (partsGrounds (viewMembers (start c .args .node .members) .table) (toParts (d .before .before .parts-of .result)) (d .death-of .result) (toVerdict (j .judge .result)))
 
 weighed-there : (c : tie.After-stop-of) → let a = start c .args in reason-there c (c .stop-of .result) ≡ weigh here (toEvent (a .g .event)) (viewNode (a .node)) (a .draws .now)
+unfolding viewNode
 weighed-there c =
     let j = c .before in
     let d = j .before in
     let p = d .before .before in
     let a = start c .args in
     ap (reason-there c) (c .stop-of .ensures)
-    ∙ weighing (a .node) (a .g .event) (a .draws .now) (p .parts-of .result) (d .is-deceased .result) (j .judge .result) (p .parts-of .ensures) (d .is-deceased .ensures) (j .judge .ensures)
+    ∙ weighing (a .node) (a .g .event) (a .draws .now) (p .parts-of .result) (d .death-of .result) (j .judge .result) (p .parts-of .ensures) (d .death-of .ensures) (j .judge .ensures)
 
 returns : tie.Need-returns
 returns c = let t = c .before in let o = t .before .before in sym (ap (reason-there o) (t .stop .given .1)) ∙ weighed-there o

@@ -1,5 +1,6 @@
 //! The edge of the domain in which the published code is the judge: no refusal is met, the list is never emptied, no
-//! number is lowered, no timer ends for an address that is to stay or is gone, and no old news is collected.
+//! number is lowered, no timer ends for an address that is to stay or is gone, no old news is collected, and
+//! D is not taken from the row of the departed.
 //! Past it the answers are the port's own, so the oracle says only that the edge was passed.
 use rand::Lent;
 
@@ -28,6 +29,8 @@ pub enum Outside {
     Gone,
     /// The node collects old news.
     Collecting,
+    /// The node takes D from the row of the departed.
+    Remembering,
 }
 
 /// What the published code did in one call.
@@ -52,9 +55,10 @@ fn too_large(address: Address) -> bool {
 pub fn check_creation(creation: &Creation) -> Result<(), Outside> {
     refuse(5, too_large(creation.own.address))?;
     refuse(1, !in_range(&creation.settings))?;
-    match creation.collect {
-        true => Err(Outside::Collecting),
-        false => Ok(()),
+    match (creation.collect, creation.remember) {
+        (true, _) => Err(Outside::Collecting),
+        (_, true) => Err(Outside::Remembering),
+        _ => Ok(()),
     }
 }
 

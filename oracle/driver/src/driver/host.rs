@@ -1,5 +1,6 @@
 //! The host of one node: it decides what is due by the ticks, lends draws and the wait record, and tells when a call
 //! leaves the domain. Everything else is decided by the published code on the bench.
+use std::fmt;
 use std::time::Duration;
 
 use tokio::task::Parked;
@@ -8,7 +9,9 @@ use super::bench::Bench;
 use super::domain::{self, Outside, Trace};
 use super::overflow;
 use super::script::{Call, Creation, Rows, Settings};
-use super::words::{Address, Entry, Member, MemberState, Phase, Record, Sent, Timer, Wait};
+use super::words::{
+    Address, Entry, Kind, Member, MemberState, Peer, Phase, Record, Sent, Timer, Wait,
+};
 
 #[derive(Clone, Copy, Debug, PartialEq, Eq)]
 pub enum Verdict {
@@ -70,6 +73,33 @@ impl Lamps {
     }
 }
 
+/// A departed address, and the greatest number seen at its removals.
+#[derive(Clone, Copy, Debug, PartialEq, Eq)]
+pub struct Departed(pub Peer);
+
+impl fmt::Display for Departed {
+    fn fmt(&self, f: &mut fmt::Formatter<'_>) -> fmt::Result {
+        write!(f, "{}:{}", self.0.address, self.0.number)
+    }
+}
+
+/// The row of the departed, which the published code has not: worked out from what that code reports. Every removal reports
+/// a death, at a number no lower than the held one.
+fn remember(row: &mut Vec<Departed>, event: &Record) {
+    const PLACES: usize = 128;
+    if event.kind != Kind::Deceased {
+        return;
+    }
+    let known = row.iter().position(|gone| gone.0.address == event.subject);
+    let seen = known.map_or(0, |place| row.remove(place).0.number);
+    if row.len() == PLACES {
+        row.remove(0);
+    }
+    let number = event.number.max(seen);
+    let address = event.subject;
+    row.push(Departed(Peer { address, number }));
+}
+
 /// The whole state after a call.
 #[derive(Clone, Debug, PartialEq, Eq)]
 pub struct State {
@@ -80,6 +110,7 @@ pub struct State {
     pub deceased: Vec<Entry>,
     pub timers: Vec<Timer>,
     pub wait: Wait,
+    pub departed: Vec<Departed>,
 }
 
 pub struct Host {
@@ -89,6 +120,7 @@ pub struct Host {
     wait: Wait,
     rows: Option<Rows>,
     timers: Vec<(Timer, Parked)>,
+    departed: Vec<Departed>,
 }
 
 impl Host {
@@ -105,6 +137,7 @@ impl Host {
             },
             rows: None,
             timers: Vec::new(),
+            departed: Vec::new(),
         })
     }
 
@@ -126,6 +159,7 @@ impl Host {
             deceased: self.bench.deceased(),
             timers: self.timers.iter().map(|(timer, _)| *timer).collect(),
             wait: self.wait,
+            departed: self.departed.clone(),
         }
     }
 
@@ -208,6 +242,9 @@ impl Host {
         let ran = overflow::caught(|| body(self));
         let lent = rand::give_back();
         let (sent, events) = self.bench.take_output();
+        for event in &events {
+            remember(&mut self.departed, event);
+        }
         let Some(ran) = ran else {
             let why = Outside::Refusal(6);
             return Outcome::Outside { why, ran: None };

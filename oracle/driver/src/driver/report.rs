@@ -50,7 +50,8 @@ pub fn state(out: &mut impl Write, state: &State) -> io::Result<()> {
     row(out, "+", &state.alive)?;
     row(out, "x", &state.deceased)?;
     row(out, "t", &state.timers)?;
-    writeln!(out, "w {}", state.wait)
+    writeln!(out, "w {}", state.wait)?;
+    row(out, "d", &state.departed)
 }
 
 fn row(out: &mut impl Write, head: &str, items: &[impl Display]) -> io::Result<()> {

@@ -83,7 +83,7 @@ impl<W: Write> Run<W> {
                 self.stage = Stage::Live(Box::new(host));
                 self.answer(&created())
             }
-            // Refusals 5 and 1 leave no node, and neither a refusal nor a node that collects is the published code's to give.
+            // Refusals 5 and 1 leave no node, and neither a refusal nor a node that collects or remembers is the published code's to give.
             Err(_) => self.leave(),
         }
     }

@@ -30,6 +30,8 @@ pub struct Creation {
     pub tick: u32,
     /// Is old news collected? The published code has no such setting.
     pub collect: bool,
+    /// Is D taken from the row of the departed? Nor this one.
+    pub remember: bool,
 }
 
 /// A call on a node.
@@ -130,10 +132,8 @@ fn hex_digit(digit: u8) -> Option<u8> {
 }
 
 fn creation(words: &[&str]) -> Option<Creation> {
-    let (words, collect) = match words {
-        [words @ .., "collect"] => (words, true),
-        words => (words, false),
-    };
+    let (words, remember) = without(words, "remember");
+    let (words, collect) = without(words, "collect");
     let &[i, t, r, s, g, c, m, z, own, number_word, tick] = words else {
         return None;
     };
@@ -152,7 +152,16 @@ fn creation(words: &[&str]) -> Option<Creation> {
         own: peer(own, number_word)?,
         tick: number32(tick)?,
         collect,
+        remember,
     })
+}
+
+/// The words without a last one, if it stands there.
+fn without<'a, 'b>(words: &'a [&'b str], last: &str) -> (&'a [&'b str], bool) {
+    match words.split_last() {
+        Some((word, others)) if *word == last => (others, true),
+        _ => (words, false),
+    }
 }
 
 fn wait(words: &[&str]) -> Option<Wait> {
@@ -336,7 +345,8 @@ impl fmt::Display for Creation {
             write!(f, "{setting} ")?;
         }
         write!(f, "{} {} {}", self.own.address, self.own.number, self.tick)?;
-        f.write_str(if self.collect { " collect" } else { "" })
+        f.write_str(if self.collect { " collect" } else { "" })?;
+        f.write_str(if self.remember { " remember" } else { "" })
     }
 }
 

@@ -32,7 +32,7 @@ fn lines_without_a_node_and_lines_not_of_the_form() {
 
 #[test]
 fn a_fresh_node() {
-    let expected = "= ok 0\n@ 0 1:a:0\nl 0 0 0\n+\nx\nt\nw ping 0\n";
+    let expected = "= ok 0\n@ 0 1:a:0\nl 0 0 0\n+\nx\nt\nw ping 0\nd\n";
     assert_eq!(answers(NEW, false), expected);
 }
 
@@ -148,6 +148,8 @@ fn refused_creations_are_outside() {
         "new 10 10 10 10 1 3 6 58 1 0 0",
         "new 10 10 10 10 1 3 6 1374 1 0 0",
         "new 10 10 10 10 1 3 6 1169 1 0 0 collect",
+        "new 10 10 10 10 1 3 6 1169 1 0 0 remember",
+        "new 10 10 10 10 1 3 6 1169 1 0 0 collect remember",
     ] {
         let all = answers(&format!("{creation}\nadd 2 0 | 0"), false);
         assert_eq!(all, "? outside\n? outside\n", "{creation}");

@@ -24,12 +24,14 @@ use Rattle.member.specs.declared.Members.{Members}
 use Rattle.member.specs.Views.{viewMembers}
 use Rattle.disseminate.specs.Views.{ofKind}
 use Rattle.node.specs.declared.Node.{Node}
-use Rattle.node.specs.Views.{viewNode, withMembers, withDisseminator}
+use Rattle.departed.specs.declared.DepartedRow.{DepartedRow}
+use Rattle.departed.specs.Views.{departedView, packDeparted}
+use Rattle.node.specs.Views.{viewNode, withLists, withDisseminator}
 use Rattle.rules.specs.declared.Verdict.{Verdict}
 use Rattle.rules.specs.Views.{collectsFor, toVerdict, toNews, to-from-verdict, to-from-news, listAfterOf}
 use Rattle.message.specs.declared.gossip.Lent.{Lent}
 use Rattle.message.specs.declared.gossip.Report.{Report}
-use Rattle.message.specs.Views.{recordsOf, senderRule, verdictAt, clearedFor, RoomFor, findsFull, fullFor, toldTo, noted, refusedHeard, heardOf}
+use Rattle.message.specs.Views.{recordsOf, senderRule, verdictAt, deathsOf, clearedFor, RoomFor, findsFull, fullFor, toldTo, noted, refusedHeard, heardOf}
 use Rattle.message.specs.Acting.{room-for, cleared-fits, act-refused, drawn-within, act-full, act-done}
 use Rattle.message.specs.Hearing.{Sofar, ahead, turn, turn-keeps, records-long, noted-few, noted-collected, Counted, counted-stops, counted-next, sofar-start, sofar-next, sofar-over, sofar-refused, sofar-more, sofar-ends}
 use Rattle.message.proofs.gossip.handle_gossip.Statement.{statement}
@@ -42,23 +44,23 @@ abbrev whole : Node → Lent → List ℕ → Answer (M.Out Addr)
 whole n l draws = M.andMore (handler.gossip here (records l) (viewNode n) draws) (senderRule (toOptional (l .sender)))
 
 -- the node with the list and the news so far
-abbrev current : Node → Members → Heap → Heap → Node
-current n m a d = withDisseminator (withMembers n m) (record { alive = a; deceased = d })
+abbrev current : Node → Members → DepartedRow → Heap → Heap → Node
+current n m r a d = withDisseminator (withLists n m r) (record { alive = a; deceased = d })
 
 -- where its rules stop, if they do
 abbrev stops : Node → Lent → List ℕ → Cause
 stops n l draws = handler.stopsAt here (records l) (viewNode n) draws
 
 abbrev Inv-loop : tie.InvT-loop
-Inv-loop node lent draws members₀ alive₀ deceased₀ report₀ used₀ i₀ members alive deceased report used i =
-    (i ≤ lent .given + 1) × (report .count ≤ i) × Counted (records lent) (viewNode node) draws used i (current node members alive deceased) × Sofar (whole node lent draws) (ahead (toOptional (lent .sender)) (records lent) i) draws used (current node members alive deceased) report × (report .collected ≤ 128 * i)
+Inv-loop node lent draws own on members₀ departed₀ alive₀ deceased₀ report₀ used₀ i₀ members departed alive deceased report used i =
+    (i ≤ lent .given + 1) × (report .count ≤ i) × Counted (records lent) (viewNode node) draws used i (current node members departed alive deceased) × Sofar (whole node lent draws) (ahead (toOptional (lent .sender)) (records lent) i) draws used (current node members departed alive deceased) report × (report .collected ≤ 128 * i)
 
 abbrev μ-loop : tie.MeasureT-loop
-μ-loop node lent draws members₀ alive₀ deceased₀ report₀ used₀ i₀ members alive deceased report used i = lent .given + 1 - i
+μ-loop node lent draws own on members₀ departed₀ alive₀ deceased₀ report₀ used₀ i₀ members departed alive deceased report used i = lent .given + 1 - i
 
 loop-holds : tie.Need-loop-holds Inv-loop μ-loop
 loop-holds c =
-    let s = c .before .before .before .before .before in
+    let s = c .before .before .before .before .before .before .before in
     let a = s .args in (
       omega arith,
       omega (arith, ap (λ (x : Report). x .count) (c .no-report .ensures)),
@@ -70,23 +72,23 @@ loop-holds c =
 many : (s : tie.Start Inv-loop μ-loop) → length (records (s .args .lent)) ≡ s .args .lent .given
 many s = records-long (s .args .lent .rows) (s .args .lent .given) (s .pre .1)
 
-is-due : (c : tie.Then1 Inv-loop μ-loop) → c .before .before .loop .i ≤ c .before .before .before .before .before .before .before .before .args .lent .given
+is-due : (c : tie.Then1 Inv-loop μ-loop) → c .before .before .loop .i ≤ c .before .before .before .before .before .before .before .before .before .before .args .lent .given
 is-due c = omega (arith, c .if1 .taken)
 
 verdict-at-requires : tie.Need-verdict-at-requires Inv-loop μ-loop
 verdict-at-requires c κs =
     let r = c .before .before .loop .inv .3 .ready in
-    (r .members, r .heaps .deceased, c .before .before .before .before .before .before .before .before .pre .1)
+    (r .members, r .departed, r .heaps .deceased, c .before .before .before .before .before .before .before .before .before .before .pre .1)
 
 -- where a call starts, and the loop as a verdict is given
 abbrev start : tie.After-verdict-at Inv-loop μ-loop → tie.Start Inv-loop μ-loop
-start v = v .before .before .before .before .before .before .before .before .before
+start v = v .before .before .before .before .before .before .before .before .before .before .before
 
 abbrev all : tie.After-verdict-at Inv-loop μ-loop → Answer (M.Out Addr)
 all v = let a = start v .args in whole (a .node) (a .lent) (a .draws .now)
 
 abbrev reached : tie.After-verdict-at Inv-loop μ-loop → Node
-reached v = let at = v .before .before .before .loop in current (start v .args .node) (at .members) (at .alive) (at .deceased)
+reached v = let at = v .before .before .before .loop in current (start v .args .node) (at .members) (at .departed) (at .alive) (at .deceased)
 
 room : (v : tie.After-verdict-at Inv-loop μ-loop) → v .before .before .before .loop .report .count < 65
 room v = omega (arith, is-due (v .before), v .before .before .before .loop .inv .1, start v .pre .1 .few)
@@ -99,7 +101,7 @@ abbrev verdict : tie.After-verdict-at Inv-loop μ-loop → handler.Verdict Addr
 verdict v =
     let a = start v .args in
     let at = v .before .before .before .loop in
-    verdictAt (a .node .own) (viewMembers (at .members) .table) (heapView (at .deceased)) (records (a .lent)) (toOptional (a .lent .sender)) (at .i)
+    verdictAt (a .node .own) (viewMembers (at .members) .table) (deathsOf (a .node .settings .remember) (at .departed) (at .deceased)) (records (a .lent)) (toOptional (a .lent .sender)) (at .i)
 
 abbrev rule : tie.After-verdict-at Inv-loop μ-loop → M.Node Addr → List ℕ → Answer (M.Out Addr)
 rule v = let a = start v .args in turn (toOptional (a .lent .sender)) (records (a .lent)) (v .before .before .before .loop .i)
@@ -226,16 +228,16 @@ has-room f k =
     room-for (said f) k (at .alive .len - f .before .before .before .old-news .result) (at .deceased .len) (sym (f .before .finds-full .ensures) ∙ f .if2 .left)
 
 -- the alive heap without what the news outdates is whole, and has room
-clear-there : (k : tie.After-clear Inv-loop μ-loop) → let f = k .before .before in let at = told f .before .before .before .loop in
+clear-there : (k : tie.After-clear Inv-loop μ-loop) → let f = k .before .before .before in let at = told f .before .before .before .loop in
     k .clear .result ≡ clearedFor (collectsFor (start (told f) .args .node .settings .collect) (said f) (heapView (at .alive))) (said f) (at .alive)
 clear-there k =
-    let f = k .before .before in
+    let f = k .before .before .before in
     let at = told f .before .before .before .loop in
     k .clear .ensures ∙ ap (λ (n : ℕ). clearedFor n (said f) (at .alive)) (f .before .before .before .old-news .ensures .0)
 
 tell-requires : tie.Need-tell-requires Inv-loop μ-loop
 tell-requires c κs =
-    let f = c .before .before in
+    let f = c .before .before .before in
     let at = told f .before .before .before .loop in
     let on = start (told f) .args .node .settings .collect in
     let fits = cleared-fits on (said f) (at .alive) (at .inv .3 .ready .heaps .alive) in
@@ -243,9 +245,17 @@ tell-requires c κs =
     ap (λ (n : ℕ). at .alive .len - n) (f .before .before .before .old-news .ensures .0) ∙ sym (ap (λ (h : Heap). h .len) (clear-there c) ∙ fits .1) in
     (subst Packed (sym (clear-there c)) (fits .0), subst (RoomFor kind.Alive (said f)) long (has-room f kind.Alive))
 
+-- the row of the departed after the verdict
+is-row : (p : tie.After-row-after Inv-loop μ-loop) → let v = told (p .before) in let at = v .before .before .before .loop in
+    p .row-after .result ≡ packDeparted (handler.rowAfter here (verdict v) (viewMembers (at .members) .table) (departedView (at .departed)))
+is-row p =
+    let v = told (p .before) in
+    let at = v .before .before .before .loop in
+    p .row-after .ensures ∙ ap (λ (x : handler.Verdict Addr). packDeparted (handler.rowAfter here x (viewMembers (at .members) .table) (departedView (at .departed)))) (is-verdict v)
+
 note-requires : tie.Need-note-requires Inv-loop μ-loop
 note-requires c κs =
-    let f = c .before .before .before .before in
+    let f = c .before .before .before .before .before in
     let v = told f in
     let at = v .before .before .before .loop in
     (room v, omega (arith, at .inv .4, is-due (v .before), start v .pre .1 .few), few-old (f .before .before .before))
@@ -254,7 +264,8 @@ loop-again : tie.Need-loop-again Inv-loop μ-loop
 unfolding viewNode
 loop-again c =
     let k = c .before .before .before in
-    let f = k .before .before in
+    let p = k .before .before in
+    let f = p .before in
     let t = f .before in
     let o = t .before .before in
     let d = o .before .before .before in
@@ -265,28 +276,29 @@ loop-again c =
     let at = v .before .before .before .loop in
     let w = news v in
     let n : c .note .result ≡ noted (at .report) w (old v) = c .note .ensures ∙ (λ i. noted (at .report) (is-news (o .before) i) (is-old o i)) in
+    let departed = p .row-after .result in
     let alive = c .before .before .tell .result in
     let deceased = c .before .tell2 .result in
     let more = d .drew .given .0 .0 in
-    let acted = act-done (reached v) (at .inv .3 .ready) (verdict v) (a .draws .now) (at .used) (at .inv .3 .within) (l .list-after .result) (is-list l) more (d .drew .given .1) alive deceased (c .before .before .tell .ensures ∙ ap (toldTo kind.Alive (said f)) (k .clear .ensures) ∙ (λ i. toldTo kind.Alive (is-news (o .before) i) (clearedFor (is-old o i) (is-news (o .before) i) (at .alive)))) (c .before .tell2 .ensures ∙ ap (λ (x : handler.News Addr). toldTo kind.Deceased x (at .deceased)) (is-news (o .before))) (sym (is-full t) ∙ f .if2 .left) in
+    let acted = act-done (reached v) (at .inv .3 .ready) (verdict v) (a .draws .now) (at .used) (at .inv .3 .within) (l .list-after .result) (is-list l) more (d .drew .given .1) departed alive deceased (is-row p) (c .before .before .tell .ensures ∙ ap (toldTo kind.Alive (said f)) (k .clear .ensures) ∙ (λ i. toldTo kind.Alive (is-news (o .before) i) (clearedFor (is-old o i) (is-news (o .before) i) (at .alive)))) (c .before .tell2 .ensures ∙ ap (λ (x : handler.News Addr). toldTo kind.Deceased x (at .deceased)) (is-news (o .before))) (sym (is-full t) ∙ f .if2 .left) in
     let counts = noted-collected (at .report) w (a .node .settings .collect) (heapView (at .alive)) in
     let keeps = turn-keeps (toOptional (a .lent .sender)) (records (a .lent)) (at .i) (viewNode (reached v)) (drop (at .used) (a .draws .now)) (at .inv .3 .ready .good) (s .pre .1 .valid) (s .pre .2) in (
       omega (arith, is-due (v .before)),
       omega (arith, ap (λ (x : Report). x .count) n, noted-few (at .report) w (old v), at .inv .1),
-      counted-next (toOptional (a .lent .sender)) (records (a .lent)) (viewNode (a .node)) (a .draws .now) (at .used) (at .i) (reached v) (at .inv .2) w (old v) (current (a .node) (l .list-after .result .members) alive deceased) (at .used + more) keeps acted,
-      rw n (sofar-more (all v) (a .draws .now) (reached v) (at .report) (at .used) (rule v) (after v) (due v) w (old v) (current (a .node) (l .list-after .result .members) alive deceased) (at .used + more) counts keeps (room v) acted),
+      counted-next (toOptional (a .lent .sender)) (records (a .lent)) (viewNode (a .node)) (a .draws .now) (at .used) (at .i) (reached v) (at .inv .2) w (old v) (current (a .node) (l .list-after .result .members) departed alive deceased) (at .used + more) keeps acted,
+      rw n (sofar-more (all v) (a .draws .now) (reached v) (at .report) (at .used) (rule v) (after v) (due v) w (old v) (current (a .node) (l .list-after .result .members) departed alive deceased) (at .used + more) counts keeps (room v) acted),
       omega (arith, ap (λ (x : Report). x .collected) n, counts, is-old o, few-old o, at .inv .4),
     )
 
 returns-3 : tie.Need-returns-3 Inv-loop μ-loop
 returns-3 c =
-    let e = c .before .before .before .before in
+    let e = c .before in
     let at = e .before .before .loop in
-    let s = e .before .before .before .before .before .before .before .before in
+    let s = e .before .before .before .before .before .before .before .before .before .before in
     let a = s .args in
     let all = whole (a .node) (a .lent) (a .draws .now) in
-    let n = current (a .node) (at .members) (at .alive) (at .deceased) in
-    sofar-ends all (a .draws .now) (a .node) n (stops (a .node) (a .lent) (a .draws .now)) (at .report) (at .used)
+    let n = current (a .node) (at .members) (at .departed) (at .alive) (at .deceased) in
+    c .all-heard .ensures ∙ sofar-ends all (a .draws .now) (a .node) n (stops (a .node) (a .lent) (a .draws .now)) (at .report) (at .used)
     (sofar-over (toOptional (a .lent .sender)) (records (a .lent)) all (a .draws .now) (at .used) (at .i) n (at .report) (at .inv .3) (omega (arith, many s, e .if1 .left)))
 
 pub handle-gossip-spec : {M : Type 1} → statement M
@@ -313,11 +325,13 @@ handle-gossip-spec =
     (λ c κs. search needs)
     (λ c κs. search needs)
     returns-2
-    (λ c κs. told (c .before) .before .before .before .loop .inv .3 .ready .heaps .alive)
+    (λ c κs. let r = told c .before .before .before .loop .inv .3 .ready in (r .departed, r .members))
+    (λ c κs. told (c .before .before) .before .before .before .loop .inv .3 .ready .heaps .alive)
     tell-requires
-    (λ c κs. (told (c .before .before .before) .before .before .before .loop .inv .3 .ready .heaps .deceased, has-room (c .before .before .before) kind.Deceased))
+    (λ c κs. (told (c .before .before .before .before) .before .before .before .loop .inv .3 .ready .heaps .deceased, has-room (c .before .before .before .before) kind.Deceased))
     note-requires
-    (λ c. let v = told (c .before .before .before .before .before) in omega (arith, is-due (v .before), start v .pre .1 .few))
-    (λ c. omega (arith, is-due (told (c .before .before .before .before .before) .before)))
+    (λ c. let v = told (c .before .before .before .before .before .before) in omega (arith, is-due (v .before), start v .pre .1 .few))
+    (λ c. omega (arith, is-due (told (c .before .before .before .before .before .before) .before)))
     loop-again
+    (λ c κs. search needs)
     returns-3)

@@ -8,18 +8,16 @@ use Prim.Native.Nat.{ℕ}
 use lib.ListN.{getD}
 use borrow.Author.Needs.{needs}
 use Rattle.address.specs.Here.{here}
-use Rattle.model.specs.Choose.{death}
 use Rattle.model.specs.Rows as rows
 use Rattle.model.specs.Node.{deathPlusOne}
 use Rattle.model.specs.Members as list
 use Rattle.model.specs.Handler as handler
 use Rattle.types.specs.declared.Optional.{Optional}
 use Rattle.types.specs.Views.{toEvent, toOptional, noGossip}
-use Rattle.heap.specs.Views.{heapView}
 use Rattle.member.specs.Views.{viewMembers}
 use Rattle.rules.specs.declared.Verdict.{Verdict}
 use Rattle.rules.specs.Views.{toFound, fromVerdict, to-from-found}
-use Rattle.message.specs.Views.{recordsOf, deathFor, verdictAt}
+use Rattle.message.specs.Views.{recordsOf, deathsOf, deathFor, verdictAt}
 use Rattle.message.specs.Hearing.{record-judged, sender-judged}
 use Rattle.message.proofs.gossip.verdict_at.Statement.{statement}
 use Rattle.message.proofs.gossip.verdict_at.Tie as tie
@@ -31,22 +29,22 @@ returns c =
     let s = i .before .before in
     let a = s .args in
     let t = viewMembers (a .members) .table in
-    let h = heapView (a .deceased) in
+    let h = deathsOf (a .on) (a .departed) (a .deceased) in
     let e = toEvent (getD (a .lent .rows) (a .i) noGossip .event) in
     c .judge .ensures
     ∙ ap (λ (o : Option ℕ). fromVerdict (handler.judge here (a .own) t o e)) (ap toFound (d .death-of .ensures) ∙ to-from-found (deathFor e h))
-    ∙ ap fromVerdict (record-judged (a .own) t h (a .lent .rows) (a .lent .given) (s .pre .2) (toOptional (a .lent .sender)) (a .i) (i .if1 .taken))
+    ∙ ap fromVerdict (record-judged (a .own) t h (a .lent .rows) (a .lent .given) (s .pre .3) (toOptional (a .lent .sender)) (a .i) (i .if1 .taken))
 
 -- the verdict behind the records, by the sender
 abbrev behind : tie.Start → Optional → Verdict
-behind s o = let a = s .args in fromVerdict (verdictAt (a .own) (viewMembers (a .members) .table) (heapView (a .deceased)) [] (toOptional o) 0)
+behind s o = let a = s .args in fromVerdict (verdictAt (a .own) (viewMembers (a .members) .table) (deathsOf (a .on) (a .departed) (a .deceased)) [] (toOptional o) 0)
 
 last : (c : tie.Else1) → let s = c .before .before in let a = s .args in
-    behind s (a .lent .sender) ≡ fromVerdict (verdictAt (a .own) (viewMembers (a .members) .table) (heapView (a .deceased)) (recordsOf (a .lent .rows) (a .lent .given)) (toOptional (a .lent .sender)) (a .i))
+    behind s (a .lent .sender) ≡ fromVerdict (verdictAt (a .own) (viewMembers (a .members) .table) (deathsOf (a .on) (a .departed) (a .deceased)) (recordsOf (a .lent .rows) (a .lent .given)) (toOptional (a .lent .sender)) (a .i))
 last c =
     let s = c .before .before in
     let a = s .args in
-    ap fromVerdict (sender-judged (a .own) (viewMembers (a .members) .table) (heapView (a .deceased)) (a .lent .rows) (a .lent .given) (s .pre .2) (toOptional (a .lent .sender)) (a .i) (c .if1 .left))
+    ap fromVerdict (sender-judged (a .own) (viewMembers (a .members) .table) (deathsOf (a .on) (a .departed) (a .deceased)) (a .lent .rows) (a .lent .given) (s .pre .3) (toOptional (a .lent .sender)) (a .i) (c .if1 .left))
 
 -- a sender that is listed: D makes no difference
 returns-2 : tie.Need-returns-2
@@ -59,7 +57,7 @@ returns-2 c =
     let from = o .sender .given .0 .0 in
     let t = viewMembers (a .members) .table in
     let listed : list.listed (here .same) from t ≡ true = sym (c .before .lists .ensures) ∙ c .if2 .taken in
-    ap fromVerdict (sym (ap (λ (u : Bool). rows.pick u handler.Skip (handler.orEnd (deathPlusOne (death here from (heapView (a .deceased)))) (handler.Enter from))) listed))
+    ap fromVerdict (sym (ap (λ (u : Bool). rows.pick u handler.Skip (handler.orEnd (deathPlusOne (deathsOf (a .on) (a .departed) (a .deceased) from)) (handler.Enter from))) listed))
     ∙ sym (ap (behind s) (o .sender .given .1))
     ∙ last e
 
@@ -77,7 +75,7 @@ returns-4 c =
     let a = s .args in
     let from = o .sender .given .0 .0 in
     c .judge-sender .ensures
-    ∙ ap (λ (x : Option ℕ). fromVerdict (handler.judgeSender here (viewMembers (a .members) .table) x from)) (ap toFound (d .is-deceased .ensures) ∙ to-from-found (death here from (heapView (a .deceased))))
+    ∙ ap (λ (x : Option ℕ). fromVerdict (handler.judgeSender here (viewMembers (a .members) .table) x from)) (ap toFound (d .death-of2 .ensures) ∙ to-from-found (deathsOf (a .on) (a .departed) (a .deceased) from))
     ∙ sym (ap (behind s) (o .sender .given .1))
     ∙ last e
 

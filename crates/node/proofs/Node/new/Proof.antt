@@ -10,7 +10,8 @@ use Rattle.node.proofs.Node.new.Tie as tie
 returns : tie.Need-returns
 unfolding packNode fresh
 returns c =
-    let d = c .before in
+    let t = c .before in
+    let d = t .before in
     let m = d .before in
     let s = m .before .args in
     λ i. record {
@@ -18,8 +19,9 @@ returns c =
       own = s .own;
       members = m .new .ensures i;
       disseminator = d .new2 .ensures i;
-      timers = c .new3 .ensures i;
+      timers = t .new3 .ensures i;
+      departed = c .new4 .ensures i;
     }
 
 pub new-spec : {M : Type 1} → statement M
-new-spec = tie.close (tie.spec (λ c κs. search needs) (λ c κs. search needs) (λ c κs. search needs) returns)
+new-spec = tie.close (tie.spec (λ c κs. search needs) (λ c κs. search needs) (λ c κs. search needs) (λ c κs. search needs) returns)

@@ -9,7 +9,8 @@ use Rattle.node.proofs.Node.none.Tie as tie
 returns : tie.Need-returns
 unfolding packNode
 returns c =
-    let d = c .before in
+    let t = c .before in
+    let d = t .before in
     let m = d .before in
     let b = m .before in
     λ i. record {
@@ -17,8 +18,9 @@ returns c =
       own = b .blank .ensures i;
       members = m .nobody-listed .ensures i;
       disseminator = d .new .ensures i;
-      timers = c .new2 .ensures i;
+      timers = t .new2 .ensures i;
+      departed = c .new3 .ensures i;
     }
 
 pub none-spec : {M : Type 1} → statement M
-none-spec = tie.close (tie.spec (λ c κs. search needs) (λ c κs. search needs) (λ c κs. search needs) (λ c κs. search needs) returns)
+none-spec = tie.close (tie.spec (λ c κs. search needs) (λ c κs. search needs) (λ c κs. search needs) (λ c κs. search needs) (λ c κs. search needs) returns)

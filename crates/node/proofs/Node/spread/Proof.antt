@@ -30,7 +30,7 @@ use Rattle.node.proofs.Node.spread.Tie as tie
 get-gossip-requires : tie.Need-get-gossip-requires
 unfolding viewNode
 get-gossip-requires c κs =
-    let r = c .before .before .before .before .before .before .before .before .before .before .pre in
+    let r = c .before .before .before .before .before .before .before .before .before .before .before .pre in
     (r .heaps .alive, r .heaps .deceased, r .good .heaps kind.Alive, r .good .heaps kind.Deceased, r .good .settings, r .members .packed .few)
 
 -- the size of a good node's settings
@@ -53,7 +53,7 @@ returns-2 : tie.Need-returns-2
 unfolding M.spread viewNode termsOf
 returns-2 c =
     let g = c .before .before .before in
-    let s = g .before .before .before .before .before .before .before .before .before .before .before in
+    let s = g .before .before .before .before .before .before .before .before .before .before .before .before in
     let n = s .args .self in
     let r = s .pre in
     let terms : ℕ → Terms = λ k. termsOf (n .settings .«max_selected») (n .settings .«max_size») (limitOf k (n .settings .«send_constant»)) in

@@ -34,6 +34,7 @@ impl World {
             own: Peer { address, number },
             tick: tick(rng),
             collect: false,
+            remember: false,
         };
         Self {
             creation,

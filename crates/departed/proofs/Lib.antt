@@ -1,0 +1,3 @@
+pub mod Seeking
+pub mod Marking
+pub mod Remembering
