@@ -1,0 +1,14 @@
+pub mod Each
+pub mod Heaps
+pub mod Cabinets
+pub mod Rules
+pub mod Calls
+pub mod Picking
+pub mod Waiting
+pub mod Ending
+pub mod Rows
+pub mod Alone
+pub mod Standing
+pub mod NoForgedDeath
+pub mod NoForgedSuspicion
+pub mod Witness

@@ -1,0 +1,3 @@
+pub mod Mail
+pub mod Cabinets
+pub mod Datagrams
