@@ -20,6 +20,7 @@ use Rattle.history.specs.Beginnings.{Beginning, Gave}
 use Rattle.history.specs.Moments.{Moment}
 use Rattle.history.specs.Histories.{Call, trace, start}
 use Rattle.remembering.specs.Removals.{removal, removals, rowBy, since}
+use Rattle.remembering.specs.Standing.{Takes}
 use Rattle.remembering.specs.Entering.{asked, AtRow, Along}
 use Rattle.remembering.specs.Rows.{row-append}
 use Rattle.remembering.specs.Row.{row-along}
@@ -33,6 +34,11 @@ every-le d e h [] p = refl
 every-le d e h (n ∷ ns) p =
     let q = Rattle.laws.specs.Bools.and-split (leb n d) (atMost d ns) p in
     and-join (le-leb n e (omega (arith, leb-true n d (q .0)))) (every-le d e h ns (q .1))
+
+-- the greatest of numbers
+abbrev pub most : List ℕ → ℕ
+most [] = 0
+most (n ∷ ns) = max n (most ns)
 
 module _ {A : Type 0} (same : A → A → Bool) (test : Test same) (a : A) where
   abbrev Once : List (Departed A) → Type 0
@@ -176,6 +182,45 @@ module _ {A : Type 0} (same : A → A → Bool) (test : Test same) (a : A) where
       since-bounded xs (depart same (x .addr) (x .number) r) (pick (same a (x .addr)) (x .number ∷ pick (has same a (gone r)) ns []) ns)
       (depart-once same test (x .addr) (x .number) r o) (one-bounded x r ns o p)
 
+  -- the row's number is the greatest of the numbers, where it has the address
+  abbrev Exact : List (Departed A) → List ℕ → Type 0
+  Exact r ns = (d : ℕ) → lookUp same a r ≡ some d → most ns ≡ d
+
+  own-exact : (n : ℕ) (r : List (Departed A)) (ns : List ℕ) → Once r → Exact r ns → Exact (depart same a n r) (n ∷ pick (has same a (gone r)) ns [])
+  own-exact n r ns o p d e = by (lookUp same a r) refl (some-inj _ _ (sym (own-number n r o) ∙ e))
+    where
+      by : (x : Option ℕ) → lookUp same a r ≡ x → greatest (lookUp same a r) n ≡ d → most (n ∷ pick (has same a (gone r)) ns []) ≡ d
+      by none q g =
+          let z : n ≡ d = sym (ap (λ (x : Option ℕ). greatest x n) q) ∙ g in
+          ap (λ (u : Bool). max n (most (pick u ns []))) (none-has r q) ∙ (let y : max n 0 ≡ d = omega arith in y)
+      by (some k) q g =
+          let z : max k n ≡ d = sym (ap (λ (x : Option ℕ). greatest x n) q) ∙ g in
+          ap (λ (u : Bool). max n (most (pick u ns []))) (there r k q) ∙ (let y : max n (most ns) ≡ d = omega (arith, p k q) in y)
+
+  other-exact : (b : A) (n : ℕ) (r : List (Departed A)) (ns : List ℕ) → same a b ≡ false → Once r → Exact r ns → Exact (depart same b n r) ns
+  unfolding depart
+  other-exact b n r ns f o p d e =
+      p d (in-rest b r d f (in-room (without same b r) d (once-without b r o) (not-last (makeRoom (without same b r)) (record { addr = b; number = greatest (lookUp same b r) n }) d f e)))
+
+  one-exact : (x : Departed A) (r : List (Departed A)) (ns : List ℕ) → Once r → Exact r ns
+      → Exact (depart same (x .addr) (x .number) r) (pick (same a (x .addr)) (x .number ∷ pick (has same a (gone r)) ns []) ns)
+  one-exact x r ns o p =
+      (elim (same a (x .addr)) as (λ u. same a (x .addr) ≡ u → Exact (depart same (x .addr) (x .number) r) (pick u (x .number ∷ pick (has same a (gone r)) ns []) ns)) [
+        | true ↦ λ e. subst (λ (b : A). Exact (depart same b (x .number) r) (x .number ∷ pick (has same a (gone r)) ns [])) (test .same-eq a (x .addr) e) (own-exact (x .number) r ns o p)
+        | false ↦ λ e. other-exact (x .addr) (x .number) r ns e o p
+      ]) refl
+
+  exact-from : (xs r : List (Departed A)) (ns : List ℕ) → Once r → Exact r ns → Exact (rowBy same xs r) (since same a xs r ns)
+  exact-from [] r ns o p = p
+  exact-from (x ∷ xs) r ns o p =
+      exact-from xs (depart same (x .addr) (x .number) r) (pick (same a (x .addr)) (x .number ∷ pick (has same a (gone r)) ns []) ns)
+      (depart-once same test (x .addr) (x .number) r o) (one-exact x r ns o p)
+
+  -- "the greatest number seen at a removal since the address last came into the row": no less and no more
+  pub greatest-since : (xs : List (Departed A)) (d : ℕ) → lookUp same a (rowBy same xs []) ≡ some d → most (since same a xs [] []) ≡ d
+  unfolding lookUp
+  greatest-since xs d e = exact-from xs [] [] (λ c. omega arith) (λ x y. Rattle.laws.specs.Bools.none-some y) d e
+
 -- the row before a moment among others
 along-at : {A : Type 0} (address : Address A) (ms ns : List (Moment A)) (m : Moment A) (r : List (Departed A)) → Along address (ms ++ (m ∷ ns)) r → AtRow address (rowBy (address .same) (removals address ms) r) m
 along-at address [] ns m r p = p .0
@@ -205,6 +250,10 @@ module _ {A : Type 0} (address : Address A) (lawful : Lawful address) (b : Begin
   -- the row before it is what the removals before it say
   pub row-then : m .before .departed ≡ rowBy (address .same) (removals address ms) []
   row-then = at-row .row
+
+  -- the number that a Joined or a Ping leaves, by D in the ticket's words: of a listed address too, and with the setting off
+  pub takes-then : Takes address (m .deed) (m .before) (m .after)
+  takes-then = at-row .takes
 
   -- "an address that is in the row is admitted (Joined or by its Ping) only above every number at which it was removed since it last came into the row"
   pub admitted-above : (a : A) (d : ℕ) → m .before .settings .remember ≡ true → lookUp (address .same) a (m .before .departed) ≡ some d → asked (m .deed) ≡ true

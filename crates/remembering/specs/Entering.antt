@@ -25,6 +25,7 @@ use Rattle.laws_rules.specs.Judged.{Judged, skipped, joined-at-end, joined-low,
 use Rattle.history.specs.Moments.{Deed, Told, Sender, Added, Ended, Other, Moment}
 use Rattle.history.specs.Rules.{add-gives}
 use Rattle.remembering.specs.Removals.{removal, rowBy}
+use Rattle.remembering.specs.Standing.{Takes}
 
 clash : {B : Type 0} (u : Bool) → u ≡ false → u ≡ true → B
 clash u p q = absurd (omega (arith, ap one p, ap one q))
@@ -65,6 +66,7 @@ module _ {A : Type 0} (address : Address A) where
   pub record AtRow (r : List (Departed A)) (m : Moment A) : Type 0 where
     pub row : m .before .departed ≡ r
     pub admits : asked (m .deed) ≡ true → Admits (m .before) (m .after)
+    pub takes : Takes address (m .deed) (m .before) (m .after)
 
   -- moments, each with the row by the removals before it
   abbrev pub Along : List (Moment A) → List (Departed A) → Type 0

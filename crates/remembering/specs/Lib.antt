@@ -5,3 +5,7 @@ pub mod Rows
 pub mod Row
 pub mod Above
 pub mod Counted
+pub mod Order
+pub mod Standing
+pub mod Unasked
+pub mod Sane

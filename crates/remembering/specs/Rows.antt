@@ -23,8 +23,9 @@ use Rattle.model.specs.Handler as handler
 use Rattle.model.specs.Detector as D
 use Rattle.model.specs.Detector.{Stepped}
 use Rattle.laws_rules.specs.Judged.{Judged, skipped, joined-at-end, joined-low, joined-raises, joined-enters, recovered-unknown, recovered-low, recovered-recovers, own-at-end, own-refutes, suspected-unknown, suspected-equal, suspected-low, suspected-suspects, deceased-unknown, deceased-low, deceased-buries, judged, SenderJudged, listed-already, sender-at-end, sender-enters, sender-judged, Fated, fated-leaves, fated-alive, fated-greater, fated-absent, fated}
-use Rattle.history.specs.Moments.{Deed, Told, Sender, Ended, Other, Moment, momentOf, moment, silent, traceThen, stepped, traceGossip, traceSpread, traceAck, traceMessage, traceStep, traceTimer}
+use Rattle.history.specs.Moments.{Deed, Told, Sender, Added, Ended, Other, Moment, momentOf, moment, silent, traceThen, stepped, traceGossip, traceSpread, traceAck, traceMessage, traceStep, traceTimer}
 use Rattle.remembering.specs.Removals.{removed, byNotice, removal, removals, rowBy}
+use Rattle.remembering.specs.Standing.{Takes, item-takes, sender-stands}
 use Rattle.remembering.specs.Entering.{asked, Admits, AtRow, Along, item-admits, sender-admits}
 
 -- removals one after the other, and more of them
@@ -145,13 +146,20 @@ module _ {A : Type 0} (address : Address A) (lawful : Lawful address) where
 
   -- a moment that nobody else asked for
   pub aside : (s s′ : Node A) (d : Deed A) (said : List (Gossip A)) → asked d ≡ false → AtRow address (s .departed) (record { before = s; deed = d; after = s′; said = said })
-  aside s s′ d said e = record { row = refl; admits = λ q. not-asked (sym e ∙ q) }
+  aside s s′ d said e = record { row = refl; admits = λ q. not-asked (sym e ∙ q); takes = none-taken d e }
+    where
+      none-taken : (d : Deed A) → asked d ≡ false → Takes address d s s′
+      none-taken (Told x) q = not-asked (sym q)
+      none-taken (Sender b) q = not-asked (sym q)
+      none-taken (Added b n) q = tt
+      none-taken (Ended b n) q = tt
+      none-taken Other q = tt
 
-  one-remembers : (d : Deed A) (s : Node A) {x : Answer (Out A)} → Still (rowBy same (removal address d s) (s .departed)) x → After (λ o. asked d ≡ true → Admits address s (o .node)) x
+  one-remembers : (d : Deed A) (s : Node A) {x : Answer (Out A)} → Still (rowBy same (removal address d s) (s .departed)) x → After (λ o. asked d ≡ true → Admits address s (o .node)) x → After (λ o. Takes address d s (o .node)) x
       → After (λ o. Remembers (moment d s x) s (o .node)) x
-  one-remembers d s halts f = halts
-  one-remembers d s (gives e) (gives f) =
-      gives (e ∙ ap (λ (l : List (Departed A)). rowBy same l (s .departed)) (sym (append-nil (removal address d s))), (record { row = refl; admits = f }, tt))
+  one-remembers d s halts f g = halts
+  one-remembers d s (gives e) (gives f) (gives g) =
+      gives (e ∙ ap (λ (l : List (Departed A)). rowBy same l (s .departed)) (sym (append-nil (removal address d s))), (record { row = refl; admits = f; takes = g }, tt))
 
   -- what follows a rule: `at` says which node an answer holds
   then-remembers : {B : Type 0} (at : B → Node A) (s : Node A) (ms : List (Moment A)) {x : Answer (Out A)} (l : Node A → List ℕ → List (Moment A)) {k : Out A → List ℕ → Answer B}
@@ -181,7 +189,7 @@ module _ {A : Type 0} (address : Address A) (lawful : Lawful address) where
   gossip-remembers [] s ds = gives (refl, tt)
   gossip-remembers (g ∷ gs) s ds =
       then-remembers (λ o. o .node) s (moment (Told (g .event)) s (handler.item address (g .event) s ds)) (traceGossip address gs)
-      (one-remembers (Told (g .event)) s (item-row (g .event) s ds) (after-map (λ o f _. f) (item-admits address lawful (g .event) s ds)))
+      (one-remembers (Told (g .event)) s (item-row (g .event) s ds) (after-map (λ o f _. f) (item-admits address lawful (g .event) s ds)) (item-takes address lawful (g .event) s ds))
       (λ o rest. after-then (gossip-remembers gs (o .node) rest) (λ p rest₂ v. gives v))
 
   -- a row that stands through moments without a removal
@@ -207,7 +215,7 @@ module _ {A : Type 0} (address : Address A) (lawful : Lawful address) where
   message-remembers (Ping from by) gs s ds =
       then-more (λ e. e .node) s (traceGossip address gs s ds) (handler.admit address from) (λ s₁ rest. moment (Sender from) s₁ (handler.admit address from s₁ rest)) (λ s₁ rest. traceSpread address s₁)
       (gossip-remembers gs s ds)
-      (λ s₁ rest. one-remembers (Sender from) s₁ (admit-row from s₁ rest) (after-map (λ o f _. f) (sender-admits address lawful from s₁ rest)))
+      (λ s₁ rest. one-remembers (Sender from) s₁ (admit-row from s₁ rest) (after-map (λ o f _. f) (sender-admits address lawful from s₁ rest)) (sender-stands address lawful from s₁ rest))
       (λ o rest. gives (spread-remembers (o .node)))
   message-remembers (PingReq from suspect) gs s ds =
       then-remembers (λ e. e .node) s (traceGossip address gs s ds) (λ s₁ rest. traceSpread address s₁) (gossip-remembers gs s ds) (λ o rest. gives (spread-remembers (o .node)))
@@ -264,4 +272,4 @@ module _ {A : Type 0} (address : Address A) (lawful : Lawful address) where
   timer-remembers i s =
       let t = D.timerAt address i s in
       let row = fated-row t (D.fateAt address i s) (D.freed address i s) (fated address t (s .members .table)) in
-      one-remembers (Ended (t .addr) (t .number)) s row (after-map (λ o _ e. not-asked e) row)
+      one-remembers (Ended (t .addr) (t .number)) s row (after-map (λ o _ e. not-asked e) row) (after-map (λ o _. tt) row)

@@ -2,17 +2,18 @@
 -- Addresses are numbers here. The own address is 1, and of n listed the addresses are 1 to n.
 -- Assumes nothing.
 use mathlib.Core.Path.{_≡_, refl}
-use mathlib.Core.Bool.{false}
-use mathlib.Core.List.{List, [], _∷_, map}
+use mathlib.Core.Bool.{Bool, true, false, _&&_}
+use mathlib.Core.List.{List, [], _∷_, _++_, map}
 use mathlib.Core.Option.{none}
-use Prim.Native.Nat.{ℕ, _-_}
-use lib.ListN.{replicate}
+use Prim.Native.Nat.{ℕ, _+_, _-_}
+use lib.ListN.{replicate, take, drop}
+use lib.Dec.{eqb}
 use Rattle.model.specs.declared.Settings.{Settings}
 use Rattle.model.specs.declared.Refusal.the-variants.{DrawsShort}
 use Rattle.model.specs.declared.Cause.the-variants.{Record, Sender}
 use Rattle.model.specs.declared.Reply.{Reply}
 use Rattle.model.specs.declared.Reply.the-variants.{Done, Refused, RefusedAt}
-use Rattle.model.specs.Rows.{swap, count, those}
+use Rattle.model.specs.Rows.{pick, every, swap, count, those}
 use Rattle.model.specs.Bounds.{message-room, step-room}
 use Rattle.model.specs.Answers.{when}
 use Rattle.model.specs.Words.{Joined, Deceased, Gossip, Action, Ping, Ack, WaitState, SendingPing, SendingPingReq, partsOf}
@@ -28,7 +29,7 @@ use Rattle.model.specs.Node.{Node, quiet, andMore, pushed, emit, change, spread
 use Rattle.model.specs.Handler.{causeAt, joinedAt, joined, deceased, judgeSender, listAfter, rowAfter, newsOf, act, item, stopsAt, admit, acked, answerTo, forwarded, handle}
 use Rattle.model.specs.Detector.{isOver, due, pinged, sendPing, suspect, asked, pickGroup, sendPingReq}
 use Rattle.model.specs.Sound.{inRange, positioned, validGossip, soundHeap, soundRows, soundMembers, soundTimers, soundDeparted, sound}
-use Rattle.model.specs.Calls.{addPeer, validAction, validState, message, detect}
+use Rattle.model.specs.Calls.{replyNumber, drawsUsed, addPeer, validAction, validState, message, detect}
 use Rattle.supply.specs.Numbered.{numbers, upTo, listed}
 use Rattle.supply.specs.Shuffles.{pickDraws}
 use Rattle.supply.specs.Entries.{comers, entryDraws}
@@ -86,6 +87,17 @@ pub ping-of-64 : Takes 63 (stepDraws {A = ℕ} settings SendingPing 64) (steps S
 unfolding pickDraws when swap count partsOf leastFrom leastPower limitOf allBelow termsOf over rounds choose shuffle advance update seek pickFrom lampsOf change spread loaded stored isOver due pinged sendPing inRange positioned soundHeap soundRows soundMembers soundTimers soundDeparted sound validState detect
 ping-of-64 = record { says = refl; enough = refl; less = refl }
 
+-- and so with any number from 3 to 64
+abbrev exact : ℕ → Bool
+exact n =
+    let d = stepDraws {A = ℕ} settings SendingPing n in
+    let call = steps SendingPing (ring n (upTo n) (n - 1)) in
+    eqb (drawsUsed (call d)) d && eqb (replyNumber (call (d - 1))) 8
+
+pub ping-of-any : every exact (drop 2 (upTo 64)) ≡ true
+unfolding pickDraws when swap count partsOf leastFrom leastPower limitOf allBelow termsOf over rounds choose shuffle advance update seek pickFrom lampsOf change spread loaded stored isOver due pinged sendPing inRange positioned soundHeap soundRows soundMembers soundTimers soundDeparted sound validState detect
+ping-of-any = refl
+
 -- ---- a group of four of whom there are four: two shuffles of five draws, everybody looked at
 pub group-of-six : Takes 10 (stepDraws {A = ℕ} settings (SendingPingReq 2 0) 6) (steps (SendingPingReq 2 0) (ring 6 (3 ∷ 4 ∷ 5 ∷ 6 ∷ 2 ∷ 1 ∷ []) 5)) (Refused DrawsShort)
 unfolding pickDraws when swap count those partsOf varintFrom varintLength numberSize sizeOver sizeOf leastFrom leastPower limitOf climbIn climb lower downIn down push pushAll sinkTop removeTop allBelow termsOf wasNoted takeTop tryHeap tryAlive tryDeceased over rounds choose isOld collects rebuilt cleared shuffle advance update seek pickFrom lampsOf pushed emit change spread loaded stored isOver due suspect asked pickGroup sendPingReq inRange positioned soundHeap soundRows soundMembers soundTimers soundDeparted sound validState detect
@@ -94,6 +106,17 @@ group-of-six = record { says = refl; enough = refl; less = refl }
 pub group-of-64 : Takes 63 (stepDraws {A = ℕ} settings (SendingPingReq 2 0) 64) (steps (SendingPingReq 2 0) (ring 64 (upTo 64) 63)) (Refused DrawsShort)
 unfolding pickDraws when swap count those partsOf varintFrom varintLength numberSize sizeOver sizeOf leastFrom leastPower limitOf climbIn climb lower downIn down push pushAll sinkTop removeTop allBelow termsOf wasNoted takeTop tryHeap tryAlive tryDeceased over rounds choose isOld collects rebuilt cleared shuffle advance update seek pickFrom lampsOf pushed emit change spread loaded stored isOver due suspect asked pickGroup sendPingReq inRange positioned soundHeap soundRows soundMembers soundTimers soundDeparted sound validState detect
 group-of-64 = record { says = refl; enough = refl; less = refl }
+
+-- and so with any number from 7 to 64
+abbrev exactGroup : ℕ → Bool
+exactGroup n =
+    let d = stepDraws {A = ℕ} settings (SendingPingReq 2 0) n in
+    let call = steps (SendingPingReq 2 0) (ring n (upTo n) (n - 1)) in
+    eqb (drawsUsed (call d)) d && eqb (replyNumber (call (d - 1))) 8
+
+pub group-of-any : every exactGroup (drop 6 (upTo 64)) ≡ true
+unfolding pickDraws when swap count those partsOf varintFrom varintLength numberSize sizeOver sizeOf leastFrom leastPower limitOf climbIn climb lower downIn down push pushAll sinkTop removeTop allBelow termsOf wasNoted takeTop tryHeap tryAlive tryDeceased over rounds choose isOld collects rebuilt cleared shuffle advance update seek pickFrom lampsOf pushed emit change spread loaded stored isOver due suspect asked pickGroup sendPingReq inRange positioned soundHeap soundRows soundMembers soundTimers soundDeparted sound validState detect
+group-of-any = refl
 
 -- ---- a message
 abbrev join : ℕ → Gossip ℕ
@@ -116,6 +139,17 @@ message-of-64 = record { says = refl; enough = refl; less = refl }
 pub message-to-full : Takes 1 (entryDraws (comers {A = ℕ} (Ack 1 none) 2) 64) (hears (Ack 1 none) (death-of 64 ∷ join 65 ∷ []) (ring 64 (upTo 64) 0)) (RefusedAt DrawsShort (Record 1))
 unfolding entryDraws when swap count those partsOf varintFrom varintLength numberSize sizeOver sizeOf leastFrom leastPower limitOf climbIn climb lower downIn down push pushAll sinkTop removeTop allBelow termsOf wasNoted takeTop tryHeap tryAlive tryDeceased over rounds choose orElse death isOld collects rebuilt cleared added add remove update makeRoom lookUp without depart departs deathOf lampsOf quiet andMore pushed emit change spread loaded stored causeAt joinedAt joined deceased judgeSender listAfter rowAfter newsOf act item stopsAt admit acked answerTo forwarded handle inRange positioned validGossip soundHeap soundRows soundMembers soundTimers soundDeparted sound validAction message
 message-to-full = record { says = refl; enough = refl; less = refl }
+
+-- and so of 3 records at any number listed: as many die first as must, then all others come in
+abbrev exactMessage : ℕ → ℕ → Bool
+exactMessage k n =
+    let d = entryDraws (comers {A = ℕ} (Ack 1 none) k) n in
+    let call = hears (Ack 1 none) (map death-of (take (k - d) (upTo n)) ++ map (λ i. join (100 + i)) (upTo d)) (ring n (upTo n) 0) in
+    pick (eqb d 0) true (eqb (drawsUsed (call d)) d && eqb (replyNumber (call (d - 1))) 8)
+
+pub message-of-any : every (exactMessage 3) (upTo 64) ≡ true
+unfolding entryDraws when swap count those partsOf varintFrom varintLength numberSize sizeOver sizeOf leastFrom leastPower limitOf climbIn climb lower downIn down push pushAll sinkTop removeTop allBelow termsOf wasNoted takeTop tryHeap tryAlive tryDeceased over rounds choose orElse death isOld collects rebuilt cleared added add remove update makeRoom lookUp without depart departs deathOf lampsOf quiet andMore pushed emit change spread loaded stored causeAt joinedAt joined deceased judgeSender listAfter rowAfter newsOf act item stopsAt admit acked answerTo forwarded handle inRange positioned validGossip soundHeap soundRows soundMembers soundTimers soundDeparted sound validAction message
+message-of-any = refl
 
 -- ---- a peer is added
 pub add-of-one : Takes 1 1 (λ draws. addPeer numbers (stored numbers (ring 1 (1 ∷ []) 0)) 7 0 (replicate draws 0) .reply) (Refused DrawsShort)

@@ -16,7 +16,7 @@ use Rattle.model.specs.Choose.{death, orElse}
 use Rattle.model.specs.Members.{Members, added, add, remove, update}
 use Rattle.model.specs.Collect.{collects, cleared}
 use Rattle.model.specs.Departed.{makeRoom, lookUp, without, depart, departs, deathOf}
-use Rattle.model.specs.Node.{Node, Out, quiet, andMore, pushed, emit, numbered, change, leave}
+use Rattle.model.specs.Node.{Node, Out, withDisseminator, quiet, andMore, pushed, emit, numbered, change, leave}
 use Rattle.model.specs.Handler.{joinedAt, joined, deceased, listAfter, rowAfter, newsOf, act, item, admit, judgeSender, gossip}
 use Rattle.model.specs.Detector.{fateOf, endAt, byFate}
 use Rattle.worked.specs.Numbered.{ipv4}
@@ -47,6 +47,8 @@ table =
     -- "a removal of an address that is in the row moves it to the end with the greater of its number and the new ones"
     ∷ (removed B 3 (gone B 5 ∷ gone C 1 ∷ []) is (gone C 1 ∷ gone B 5 ∷ []))
     ∷ (removed B 9 (gone B 5 ∷ gone C 1 ∷ []) is (gone C 1 ∷ gone B 9 ∷ []))
+    -- from the midst of it, with the others where they are
+    ∷ (removed C 0 (gone B 5 ∷ gone C 1 ∷ gone own 3 ∷ []) is (gone B 5 ∷ gone own 3 ∷ gone C 1 ∷ []))
     -- "When the row is full the first makes room": 128 others, 127 others, and 127 others with B among them
     ∷ (removed B 7 (crowd 128) is (crowd 127 ++ (gone B 7 ∷ [])))
     ∷ (removed B 7 (crowd 127) is (crowd 127 ++ (gone B 7 ∷ [])))
@@ -64,7 +66,7 @@ table =
 
 pub remembered : All table
 unfolding makeRoom lookUp without depart departs deathOf orElse death
-remembered = refl and refl and refl and refl and refl and refl and refl and refl and refl and refl and refl and refl and refl and refl and end
+remembered = refl and refl and refl and refl and refl and refl and refl and refl and refl and refl and refl and refl and refl and refl and refl and end
 
 -- the cabinet's settings but for this one
 abbrev remembering : Bool → Settings
@@ -105,6 +107,10 @@ alone on row =
       departed = row;
     }
 
+-- a node that holds B's death at 9
+abbrev burying : Node ℕ → Node ℕ
+burying s = withDisseminator s (record { alive = []; deceased = buried 9 })
+
 -- the row that a rule leaves, and the number at which B stands then
 abbrev rowOf : Answer (Out ℕ) → Option (List (Departed ℕ))
 rowOf = ofGiven (λ o. o .node .departed)
@@ -128,10 +134,16 @@ rules =
     ∷ (standsAt (admit ipv4 B (alone true (gone B 5 ∷ [])) (0 ∷ [])) is some 6)
     ∷ (standsAt (ruleOf Joined B 0 (alone false (gone B 5 ∷ [])) (0 ∷ [])) is some 0)
     ∷ (standsAt (admit ipv4 B (alone false (gone B 5 ∷ [])) (0 ∷ [])) is some 0)
+    -- also of one that is listed: it is raised above D, and nothing is asked of the row with the setting off
+    ∷ (standsAt (ruleOf Joined B 0 (listing true (gone B 6 ∷ [])) []) is some 7)
+    ∷ (standsAt (ruleOf Joined B 0 (listing false (gone B 6 ∷ [])) []) is some 2)
+    -- "else from the heap": the row has another
+    ∷ (standsAt (ruleOf Joined B 0 (burying (alone true (gone C 1 ∷ []))) (0 ∷ [])) is some 10)
+    ∷ (standsAt (admit ipv4 B (burying (alone true (gone C 1 ∷ []))) (0 ∷ [])) is some 10)
     -- within one message: removed by the first record, and back above it by the second
     ∷ (standsAt (gossip ipv4 (says Deceased B 7 ∷ says Joined B 0 ∷ []) (listing true []) (0 ∷ [])) is some 8)
     ∷ []
 
 pub by-each-rule : All rules
 unfolding when swap partsOf climbIn climb push added add remove update collects cleared quiet andMore pushed emit change leave joinedAt joined deceased listAfter rowAfter newsOf act item admit judgeSender fateOf endAt byFate death orElse makeRoom lookUp without depart departs deathOf
-by-each-rule = refl and refl and refl and refl and refl and refl and refl and refl and refl and refl and refl and end
+by-each-rule = refl and refl and refl and refl and refl and refl and refl and refl and refl and refl and refl and refl and refl and refl and refl and end

@@ -1,0 +1,22 @@
+-- `cwords::write::record_word` meets its contract.
+-- Assumes nothing.
+use mathlib.Core.Path.{_≡_, refl, ap, sym, _∙_}
+use native.Mathlib.Omega.{arith}
+use borrow.Author.Tests.{eq-eqb, ne-eqb, lt-ltb, le-ltb, not-true, not-false}
+use borrow.Author.Needs.{needs}
+use Rattle.cwords.proofs.write.record_word.Statement.{statement}
+use Rattle.cwords.proofs.write.record_word.Tie as tie
+
+returns : tie.Need-returns
+returns c = (rw (lt-ltb _ _ (c .if1 .taken)), omega arith)
+
+returns-2 : tie.Need-returns-2
+returns-2 c = (rw (le-ltb _ _ (c .if1 .left)), omega arith)
+
+pub record-word-spec : {M : Type 1} → statement M
+record-word-spec =
+    tie.close
+    (tie.spec
+    (λ c. search needs)
+    returns
+    returns-2)

@@ -1,0 +1,25 @@
+-- `host::swim_words_look_up` meets its contract.
+-- Assumes nothing.
+use mathlib.Core.Path.{_≡_, refl, ap, sym, _∙_}
+use Rattle.cwords.specs.Reading.{rows, addressIn, nodeOf}
+use Rattle.swim.specs.Lookups.{lookUp, howMany, memberAt}
+use Rattle.host.proofs.Ending.{looks-at}
+use borrow.Author.Needs.{needs}
+use Rattle.host.proofs.swim_words_look_up.Statement.{statement}
+use Rattle.host.proofs.swim_words_look_up.Tie as tie
+
+returns : tie.Need-returns
+returns c =
+    let a = c .before .before .before .before .before .before .before .before .before .before .before .before .before .args in
+    let w = (rows (a .head .now) (a .order .now) (a .members .now) (a .alive .now) (a .deceased .now) (a .timers .now) (a .gone .now)) in
+    looks-at (lookUp (nodeOf w) (addressIn (a .peer .now))) _ _ _ _ (c .before .before .look-up .ensures ∙ (λ i. lookUp (c .before .before .before .before .before .node-of .ensures i) (c .before .before .before .address-in .ensures i))) (c .put-found .ensures)
+
+pub swim-words-look-up-spec : {M : Type 1} → statement M
+swim-words-look-up-spec =
+    tie.close
+    (tie.spec
+    (λ c κs. search needs)
+    (λ c κs. search needs)
+    (λ c κs. search needs)
+    (λ c κs. search needs)
+    returns)

@@ -1,0 +1,2 @@
+-- What the contracts of the exported calls cite.
+pub mod Promised
