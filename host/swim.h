@@ -198,7 +198,8 @@ static inline uint64_t swim_receive(swim_node *n, const swim_action *action, con
     return swim_words_receive(SWIM_ROWS(uint64_t, n), (swim_word *)action, (swim_word *)records, nrecords, draws, ndraws,
                               (uint64_t *)gossip, ngossip, (uint64_t *)events, nevents, (uint64_t *)letters, (uint64_t *)counts);
 }
-/* The detector's step. Lend 256 places for gossip, 1 for events and 4 letters. Refusals 2, 3, 5, SWIM_NOT_DUE, then 8, 9 or 10. */
+/* The detector's step. Lend 256 places for gossip, 1 for events and 4 letters. Refusals 2, 3, 5, SWIM_NOT_DUE, then 8, 9 or 10. Refused
+   by 9 or 10 it would be refused from the same wait record again: lend swim_fresh(tick), from which it never is (docs/HOST.md). */
 static inline uint64_t swim_step(swim_node *n, swim_wait *wait, uint32_t tick, const uint64_t *draws, uint64_t ndraws, swim_record *gossip,
                                  uint64_t ngossip, swim_record *events, uint64_t nevents, swim_letter *letters, swim_counts *counts) {
     return swim_words_step(SWIM_ROWS(uint64_t, n), (uint64_t *)wait, tick, draws, ndraws, (uint64_t *)gossip, ngossip, (uint64_t *)events,

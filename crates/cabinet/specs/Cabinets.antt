@@ -4,15 +4,16 @@ use mathlib.Core.Path.{_≡_, refl, ap, sym, subst}
 use mathlib.Core.Bool.{true, false}
 use mathlib.Core.List.{List, [], _∷_, _++_}
 use mathlib.Core.Option.{Option, none, some}
-use Prim.Native.Nat.{ℕ, suc, _≤_, _<_}
+use Prim.Native.Nat.{ℕ, suc, _+_, _-_, _%_, _≤_, _<_, min}
 use lib.Dec.{eqb}
 use lib.ListN.{length}
+use Rattle.model.specs.declared.Settings.{Settings}
 use Rattle.model.specs.declared.Reply.{Reply}
 use Rattle.model.specs.declared.Reply.the-variants.{Done, Already, NotDue, Refuted, Gone, Refused, RefusedAt}
 use Rattle.model.specs.Rows.{pick}
-use Rattle.model.specs.Words.{Address, isAlive, Event, Nothing, Joined, Recovered, Suspected, Deceased, Gossip, Entry, Action, Ping, PingReq, Message, WaitState, SendingPing, WaitingForPingAck, SendingPingReq, WaitingForPingReqAck, Declaring}
+use Rattle.model.specs.Words.{Address, isAlive, Event, Nothing, Joined, Recovered, Suspected, Deceased, Gossip, Entry, Action, Ping, PingReq, Ack, Message, WaitState, SendingPing, WaitingForPingAck, SendingPingReq, WaitingForPingReqAck, Declaring}
 use Rattle.model.specs.Node.{Node, Stored, loaded, lists, numbered, stateOf}
-use Rattle.model.specs.Detector.{isOver, waitOf, enters, firstOver}
+use Rattle.model.specs.Detector.{enters, firstOver}
 use Rattle.model.specs.Calls.{Outcome, endTimer}
 use Rattle.history.specs.Beginnings.{Beginning, Gave}
 use Rattle.history.specs.Histories.{World, Call, Add, Receive, Step, Timer, Lends, outcome, worldOf}
@@ -116,6 +117,39 @@ module _ {A : Type 0} where
   TimerAt now (Timer tick lent) = tick ≡ now
   TimerAt now (Lends wait) = ⊥
 
+module _ {A : Type 0} where
+  -- an Ack of x's own, which is not to be passed on; a message that tells a suspicion of x
+  abbrev pub AckBy : A → Action A → Type 0
+  AckBy x (Ping from by) = ⊥
+  AckBy x (PingReq from about) = ⊥
+  AckBy x (Ack from none) = from ≡ x
+  AckBy x (Ack from (some to)) = ⊥
+
+  abbrev pub AckOf : A → Call A → Type 0
+  AckOf x (Add a n ds) = ⊥
+  AckOf x (Receive action gs ds lent) = AckBy x action
+  AckOf x (Step tick ds lent) = ⊥
+  AckOf x (Timer tick lent) = ⊥
+  AckOf x (Lends wait) = ⊥
+
+  abbrev pub ToldOf : A → Call A → Type 0
+  ToldOf x (Add a n ds) = ⊥
+  ToldOf x (Receive action gs ds lent) = Among (λ g. (n : ℕ) × Names suspicions x n (g .event)) gs
+  ToldOf x (Step tick ds lent) = ⊥
+  ToldOf x (Timer tick lent) = ⊥
+  ToldOf x (Lends wait) = ⊥
+
+-- So many ticks have gone by: "now less start, modulo 2^32, is at least the wait". In numbers, and the wait of each state by its setting: the rules have their own words for it
+abbrev pub GoneBy : ℕ → ℕ → ℕ → Type 0
+GoneBy wait since now = wait ≤ (now + 4294967296 - since) % 4294967296
+
+abbrev pub waitIn : {A : Type 0} → Settings → WaitState A → ℕ
+waitIn c SendingPing = c .«ping_interval»
+waitIn c (WaitingForPingAck x n) = c .«ping_timeout»
+waitIn c (SendingPingReq x n) = 0
+waitIn c (WaitingForPingReqAck x n) = c .«ping_req_timeout»
+waitIn c (Declaring x n) = 0
+
 -- a timer ended if the call was kept, whatever became of its address
 abbrev pub ifEnded : Reply → Option ℕ → Option ℕ
 ifEnded (Done used) place = place
@@ -158,6 +192,10 @@ module _ {A : Type 0} (address : Address A) where
     pub to : Peer (m .target) s
     pub apart : address .same x (m .target) ≡ false
 
+  -- how many are asked: as many as the setting says, of those that are listed but for two, the node itself and x
+  abbrev pub asksMany : Node A → ℕ
+  asksMany s = min (s .settings .«ping_req_group_size») (length (s .members .table) - 2)
+
   module _ (begins : ℕ → World A) where
     -- every controller's node and wait record after a history
     abbrev pub worlds : List (Turn A) → ℕ → World A
@@ -186,12 +224,25 @@ module _ {A : Type 0} (address : Address A) where
       last : {t : Turn A} {h : List (Turn A)} → P t h → Latest j P (t ∷ h)
       since : {t : Turn A} {h : List (Turn A)} → worlds (t ∷ h) j .wait ≡ worlds h j .wait → Latest j P h → Latest j P (t ∷ h)
 
+    -- at turn t controller j took in an Ack of x's own
+    pub record Answers (j : ℕ) (x : A) (t : Turn A) (h : List (Turn A)) : Type 0 where
+      pub who : t .who ≡ j
+      pub ack : AckOf x (t .call)
+      pub used : ℕ
+      pub kept : given t h .reply ≡ Done used
+
+    -- since a turn x has not answered controller j: it took in no Ack of x's own, or none since a message told it a suspicion of x
+    pub data Mute (j : ℕ) (x : A) (P : Turn A → List (Turn A) → Type 0) : List (Turn A) → Type 0 where
+      opens : {t : Turn A} {h : List (Turn A)} → P t h → Mute j x P (t ∷ h)
+      mute : {t : Turn A} {h : List (Turn A)} → (Answers j x t h → ⊥) → Mute j x P h → Mute j x P (t ∷ h)
+      told : {t : Turn A} {h : List (Turn A)} → t .who ≡ j → ToldOf x (t .call) → Latest j P h → Mute j x P (t ∷ h)
+
     -- at turn t controller j made a step, which was due: its wait record went from a state that was entered at `entered` to another, at `now`
     pub record Steps (j : ℕ) (from : WaitState A) (entered : ℕ) (to : WaitState A) (now : ℕ) (t : Turn A) (h : List (Turn A)) : Type 0 where
       pub who : t .who ≡ j
       pub call : StepAt now (t .call)
       pub found : worlds h j .wait ≡ enters from entered
-      pub due : isOver (waitOf (worlds h j .node .settings) from) now entered ≡ true
+      pub due : GoneBy (waitIn (worlds h j .node .settings) from) entered now
       pub left : worlds (t ∷ h) j .wait ≡ enters to now
 
     -- controller j pinged x, another than itself, which it listed at number n, and nobody else
@@ -216,6 +267,7 @@ module _ {A : Type 0} (address : Address A) where
       pub step : Steps j (SendingPingReq x n) entered (WaitingForPingReqAck x n) now t h
       pub event : given t h .events ≡ record { event = Suspected (nodes h j .own) x n } ∷ []
       pub messages : Each (Request x (nodes h j)) (given t h .messages)
+      pub many : length (given t h .messages) ≡ asksMany (nodes h j)
       pub unheard : Latest j (Unheard j x n entered) h
 
     -- then, when ping_req_timeout had gone by, x was silent still
@@ -250,7 +302,7 @@ module _ {A : Type 0} (address : Address A) where
       pub call : TimerAt now (t .call)
       pub first : overAt now (worlds h (t .who)) ≡ some place
       pub timer : At (nodes h (t .who) .timers) place (record { addr = x; number = n; since = started })
-      pub over : isOver (worlds h (t .who) .node .settings .«suspect_timeout») now started ≡ true
+      pub over : GoneBy (worlds h (t .who) .node .settings .«suspect_timeout») started now
       pub silent : Silent x (nodes h (t .who))
       pub number : numbered address x (nodes h (t .who)) ≤ n
       pub gone : lists address x (loaded (given t h .node)) ≡ false

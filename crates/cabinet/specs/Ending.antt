@@ -83,7 +83,7 @@ module _ {A : Type 0} (address : Address A) where
       by f false q e = rest f (firstOver address wait now ts) refl e
 
   -- whom the list after it has, by its fate
-  abbrev MembersBy : Fate → Running A → Members A → Members A → Type 0
+  abbrev pub MembersBy : Fate → Running A → Members A → Members A → Type 0
   MembersBy Leaves t m m′ = m′ ≡ remove (address .same) (t .addr) m
   MembersBy Stays t m m′ = m′ ≡ m
   MembersBy Absent t m m′ = m′ ≡ m
@@ -94,7 +94,7 @@ module _ {A : Type 0} (address : Address A) where
   fate-list Stays t s ds = gives refl
   fate-list Absent t s ds = gives refl
 
-  end-list : (i : ℕ) (s : Node A) (ds : List ℕ) → After (λ o. MembersBy (fateAt address i s) (timerAt address i s) (s .members) (o .node .members)) (endAt address i s ds)
+  pub end-list : (i : ℕ) (s : Node A) (ds : List ℕ) → After (λ o. MembersBy (fateAt address i s) (timerAt address i s) (s .members) (o .node .members)) (endAt address i s ds)
   unfolding endAt
   end-list i s ds = fate-list (fateAt address i s) (timerAt address i s) (freed address i s) ds
 

@@ -8,6 +8,7 @@ pub mod Waiting
 pub mod Ending
 pub mod Rows
 pub mod Alone
+pub mod Hearing
 pub mod Standing
 pub mod NoForgedDeath
 pub mod NoForgedSuspicion

@@ -23,11 +23,11 @@ use Rattle.history.specs.Histories.{World, Call, Add, Receive, Step, Timer, Len
 use Rattle.history.specs.Tells.{At}
 use Rattle.history.specs.Worlds.{first-is}
 use Rattle.cabinet.specs.Each.{Each, nil, each-map, each-at, each-append}
-use Rattle.cabinet.specs.Cabinets.{Topic, deaths, suspicions, Turn, this, earlier, About, Names, InGossip, InMessages, Brings, Fresh, Request, worlds, nodes, Honest, Latest, last, since, freedBy, frees as freeing, Runs, starts as starting, waits, passes, nears, Steps, Pinging, Unheard, Asking, StillUnheard, Removal, AskedFor, Caused}
+use Rattle.cabinet.specs.Cabinets.{Topic, deaths, suspicions, Turn, this, earlier, About, Names, InGossip, InMessages, Brings, Fresh, Request, asksMany, worlds, nodes, Honest, Latest, last, since, freedBy, frees as freeing, Runs, starts as starting, waits, passes, nears, Steps, Pinging, Unheard, Asking, StillUnheard, Removal, AskedFor, Caused}
 use Rattle.cabinet.specs.Cabinets as cabinets
 use Rattle.cabinet.specs.Rules.{Holds, about-map}
 use Rattle.cabinet.specs.Calls.{Tells, Gives, AsksHave, EndsHave, OwnHave, call-gives}
-use Rattle.cabinet.specs.Waiting.{Went, Next, stays, rests, pings, unheard, asks, still, call-next}
+use Rattle.cabinet.specs.Waiting.{gone-by, Went, Next, stays, rests, pings, unheard, asks, still, call-next}
 use Rattle.cabinet.specs.Rows.{Row, same, starts, frees, call-row}
 use Rattle.cabinet.specs.Ending.{timer-ended}
 use Rattle.cabinet.specs.Alone.{each-alone, whole}
@@ -154,8 +154,8 @@ module _ {A : Type 0} (address : Address A) (lawful : Lawful address) (begins : 
 
     asking : (c : Call A) (x : A) (n now : ℕ) (v : Went address c w (outcome address c w) (SendingPingReq x n) (WaitingForPingReqAck x n) now)
         → outcome address c w .outcome .events ≡ record { event = Suspected (loaded (w .node) .own) x n } ∷ []
-        → Each (Request address x (loaded (w .node))) (outcome address c w .outcome .messages) → Asking address begins j x n now (turn c) h
-    asking c x n now v e ms = record { entered = w .wait .since; step = steps c v; event = e; messages = ms; unheard = came-at (v .found) }
+        → Each (Request address x (loaded (w .node))) (outcome address c w .outcome .messages) → length (outcome address c w .outcome .messages) ≡ asksMany address (loaded (w .node)) → Asking address begins j x n now (turn c) h
+    asking c x n now v e ms many = record { entered = w .wait .since; step = steps c v; event = e; messages = ms; many = many; unheard = came-at (v .found) }
 
     -- the wait record came on
     came-on : (c : Call A) → Next address c w (outcome address c w) → Came j (turn c ∷ h) (outcome address c w .wait .state) (outcome address c w .wait .since)
@@ -168,7 +168,7 @@ module _ {A : Type 0} (address : Address A) (lawful : Lawful address) (begins : 
         (last (record { entered = w .wait .since; step = steps c v; peer = l; number = m; gossip = gs; message = s }))
     came-on c (unheard x n now v s) =
         subst (λ (x : Wait A). Came j (turn c ∷ h) (x .state) (x .since)) (sym (v .left)) (last (record { entered = w .wait .since; step = steps c v; silent = s; pinged = came-at (v .found) }))
-    came-on c (asks x n now v e ms) = subst (λ (x : Wait A). Came j (turn c ∷ h) (x .state) (x .since)) (sym (v .left)) (last (asking c x n now v e ms))
+    came-on c (asks x n now v e ms many) = subst (λ (x : Wait A). Came j (turn c ∷ h) (x .state) (x .since)) (sym (v .left)) (last (asking c x n now v e ms many))
     came-on c (still x n now v s) =
         subst (λ (x : Wait A). Came j (turn c ∷ h) (x .state) (x .since)) (sym (v .left)) (last (record { entered = w .wait .since; step = steps c v; silent = s; asked = came-at (v .found) }))
 
@@ -180,9 +180,9 @@ module _ {A : Type 0} (address : Address A) (lawful : Lawful address) (begins : 
     asked-here c x n p q (rests e) = absurd (omega (arith, ap tag q, ap tag e))
     asked-here c x n p q (pings y m now gs v l k s) = absurd (omega (arith, ap tag p, ap tag (v .found)))
     asked-here c x n p q (unheard y m now v s) = absurd (omega (arith, ap tag p, ap tag (v .found)))
-    asked-here c x n p q (asks y m now v e ms) =
+    asked-here c x n p q (asks y m now v e ms many) =
         let z = same-asked (sym (v .found) ∙ p) in
-        subst (λ (x : A). AskedFor address begins (turn c ∷ h) x n) (z .0) (subst (λ (n : ℕ). AskedFor address begins (turn c ∷ h) y n) (z .1) (this (record { at = now; asking = asking c y m now v e ms })))
+        subst (λ (x : A). AskedFor address begins (turn c ∷ h) x n) (z .0) (subst (λ (n : ℕ). AskedFor address begins (turn c ∷ h) y n) (z .1) (this (record { at = now; asking = asking c y m now v e ms many })))
     asked-here c x n p q (still y m now v s) = absurd (omega (arith, ap tag p, ap tag (v .found)))
 
     asks-have : (l : Topic) (c : Call A) (st : WaitState A) → w .wait .state ≡ st → Next address c w (outcome address c w)
@@ -203,7 +203,7 @@ module _ {A : Type 0} (address : Address A) (lawful : Lawful address) (begins : 
           started = v .started;
           place = v .place;
           ends =
-              record { now = tick; call = refl; first = v .first; timer = v .timer; over = v .over; silent = v .silent; number = v .number; gone = v .gone; event = e };
+              record { now = tick; call = refl; first = v .first; timer = v .timer; over = gone-by _ _ _ (v .over); silent = v .silent; number = v .number; gone = v .gone; event = e };
           declared = seen .timers (v .place) (record { addr = x; number = n; since = v .started }) (v .timer);
         }
 

@@ -2,9 +2,14 @@
 -- Assumes nothing.
 use mathlib.Core.Path.{_≡_, refl, ap, sym, _∙_, subst}
 use mathlib.Core.Bool.{Bool, true, false}
-use mathlib.Core.List.{List, [], _∷_}
+use mathlib.Core.List.{List, [], _∷_, _++_}
 use mathlib.Core.Option.{none, some}
-use Prim.Native.Nat.{ℕ}
+use Prim.Native.Nat.{ℕ, _+_, _-_, _%_, min}
+use native.Mathlib.Omega.{arith}
+use native.Mathlib.Nat.{zero-add}
+use lib.ListN.{length, length-append}
+use borrow.Author.Tests.{leb-true}
+use Rattle.model.specs.Bounds.{ticks}
 use Rattle.model.specs.declared.State.the-variants as state
 use Rattle.model.specs.Answers.{Answer}
 use Rattle.model.specs.Words.{Address, Lawful, isAlive, Suspected, Gossip, Message, Ping, PingReq, Wait, WaitState, SendingPing, WaitingForPingAck, SendingPingReq, WaitingForPingReqAck, Declaring}
@@ -13,29 +18,42 @@ use Rattle.model.specs.Node.{Node, Out, loaded, withMembers, pushed, emit, list
 use Rattle.model.specs.Detector.{Stepped, isOver, waitOf, enters, due, pinged, sendPing, waited, heard, askEach, suspect, asked, pickGroup, sendPingReq, declare, step}
 use Rattle.model.specs.Calls.{StepOutcome, refuses, whenDue, keptStep, stepTests, detect}
 use Rattle.model.specs.Rows.{pick}
-use Rattle.laws.specs.After.{After, halts, gives, after-map, after-when, after-then}
+use Rattle.laws.specs.After.{After, halts, gives, after-map, after-when, after-then, after-both}
 use Rattle.laws_list.specs.Whole.{Whole, update-whole}
+use Rattle.laws_pick.specs.Picks.{pick-ends, after-drawn}
 use Rattle.laws_list.specs.Held.{has-put}
 use Rattle.history.specs.Histories.{World, Call, Add, Receive, Step, Timer, Lends, outcome}
 use Rattle.history.specs.Rules.{never}
 use Rattle.history.specs.Worlds.{first-cases}
 use Rattle.cabinet.specs.Each.{Each, nil, cons, each-map, each-append, each-one}
-use Rattle.cabinet.specs.Cabinets.{StepAt, Silent, Peer, Request}
+use Rattle.cabinet.specs.Cabinets.{GoneBy, waitIn, StepAt, Silent, Peer, Request, asksMany}
 use Rattle.cabinet.specs.Rules.{any}
 use Rattle.cabinet.specs.Picking.{pick-listed}
 
+-- a wait that is over by the rules is over in numbers
+pub gone-by : (wait now since : ℕ) → isOver wait now since ≡ true → GoneBy wait since now
+unfolding isOver
+gone-by wait now since e = leb-true wait ((now + ticks - since) % ticks) e
+
 -- a step that was due, by the state that it found
 pub due-at : {A : Type 0} (w : World A) (now : ℕ) (st : WaitState A) → w .wait .state ≡ st → due (w .node .settings) (w .wait) now ≡ true
-    → isOver (waitOf (w .node .settings) st) now (w .wait .since) ≡ true
+    → GoneBy (waitIn (w .node .settings) st) (w .wait .since) now
 unfolding due
-due-at {A} w now st e d = subst (λ (x : WaitState A). isOver (waitOf (w .node .settings) x) now (w .wait .since) ≡ true) e d
+due-at {A} w now st e d = by st (subst (λ (x : WaitState A). isOver (waitOf (w .node .settings) x) now (w .wait .since) ≡ true) e d)
+  where
+    by : (x : WaitState A) → isOver (waitOf (w .node .settings) x) now (w .wait .since) ≡ true → GoneBy (waitIn (w .node .settings) x) (w .wait .since) now
+    by SendingPing q = gone-by _ _ _ q
+    by (WaitingForPingAck a n) q = gone-by _ _ _ q
+    by (SendingPingReq a n) q = gone-by _ _ _ q
+    by (WaitingForPingReqAck a n) q = gone-by _ _ _ q
+    by (Declaring a n) q = gone-by _ _ _ q
 
 module _ {A : Type 0} (address : Address A) where
   -- a step of this call took the wait record from one state to another, when it was due
   pub record Went (c : Call A) (w : World A) (o : StepOutcome A) (from to : WaitState A) (now : ℕ) : Type 0 where
     pub call : StepAt now c
     pub found : w .wait .state ≡ from
-    pub due : isOver (waitOf (w .node .settings) from) now (w .wait .since) ≡ true
+    pub due : GoneBy (waitIn (w .node .settings) from) (w .wait .since) now
     pub left : o .wait ≡ enters to now
 
   -- what became of the wait record
@@ -46,7 +64,7 @@ module _ {A : Type 0} (address : Address A) where
         → o .outcome .messages ≡ record { target = x; action = Ping (loaded (w .node) .own) none; gossip = gs } ∷ [] → Next c w o
     unheard : (x : A) (n now : ℕ) → Went c w o (WaitingForPingAck x n) (SendingPingReq x n) now → Silent address x (loaded (w .node)) → Next c w o
     asks : (x : A) (n now : ℕ) → Went c w o (SendingPingReq x n) (WaitingForPingReqAck x n) now → o .outcome .events ≡ record { event = Suspected (loaded (w .node) .own) x n } ∷ []
-        → Each (Request address x (loaded (w .node))) (o .outcome .messages) → Next c w o
+        → Each (Request address x (loaded (w .node))) (o .outcome .messages) → length (o .outcome .messages) ≡ asksMany address (loaded (w .node)) → Next c w o
     still : (x : A) (n now : ℕ) → Went c w o (WaitingForPingReqAck x n) (Declaring x n) now → Silent address x (loaded (w .node)) → Next c w o
 
 module _ {A : Type 0} (address : Address A) (lawful : Lawful address) where
@@ -57,7 +75,7 @@ module _ {A : Type 0} (address : Address A) (lawful : Lawful address) where
         → e .effect .messages ≡ record { target = x; action = Ping (s .own) none; gossip = gs } ∷ [] → Moved s now SendingPing e
     m-unheard : {x : A} {n : ℕ} {e : Stepped A} → e .wait ≡ enters (SendingPingReq x n) now → Silent address x s → Moved s now (WaitingForPingAck x n) e
     m-asks : {x : A} {n : ℕ} {e : Stepped A} → e .wait ≡ enters (WaitingForPingReqAck x n) now → e .effect .events ≡ record { event = Suspected (s .own) x n } ∷ []
-        → Each (Request address x s) (e .effect .messages) → Moved s now (SendingPingReq x n) e
+        → Each (Request address x s) (e .effect .messages) → length (e .effect .messages) ≡ asksMany address s → Moved s now (SendingPingReq x n) e
     m-still : {x : A} {n : ℕ} {e : Stepped A} → e .wait ≡ enters (Declaring x n) now → Silent address x s → Moved s now (WaitingForPingReqAck x n) e
 
   pinged-moves : (now : ℕ) (gs : List (Gossip A)) (s s′ : Node A) (picks : List A) → s′ .own ≡ s .own → s′ .members .table ≡ s .members .table → Each (λ x. Peer address x s) picks
@@ -92,15 +110,20 @@ module _ {A : Type 0} (address : Address A) (lawful : Lawful address) where
   each-asks s₀ a _ s sent q (cons {x = b} {l = picks} p ps) ms =
       each-asks s₀ a picks (spread address s .node) _ q ps (each-append ms (each-one (record { action = ap (λ (o : A). PingReq o a) q; to = p .0; apart = p .1 })))
 
+  each-count : (a : A) (picks : List A) (s : Node A) (sent : List (Message A)) → length (askEach address a picks s sent .messages) ≡ length sent + length picks
+  each-count a [] s sent = omega arith
+  each-count a (b ∷ picks) s sent = omega (arith, each-count a picks (spread address s .node) (sent ++ (record { target = b; action = PingReq (s .own) a; gossip = spread address s .gossip } ∷ [])), length-append sent (record { target = b; action = PingReq (s .own) a; gossip = spread address s .gossip } ∷ []))
+
   -- what the suspicion leaves: the own address, its report, and who is listed
   record Suspects (a : A) (n : ℕ) (s : Node A) (o : Out A) : Type 0 where
     own : o .node .own ≡ s .own
+    settings : o .node .settings ≡ s .settings
     said : o .said ≡ record { event = Suspected (s .own) a n } ∷ []
     members : o .node .members ≡ update (address .same) (record { addr = a; state = state.Suspected; number = n }) (s .members)
 
   suspect-says : (a : A) (n : ℕ) (s : Node A) (ds : List ℕ) → After (Suspects a n s) (suspect address a n s ds)
   unfolding suspect emit change
-  suspect-says a n s ds = after-then (any (pushed address _ _ _ _ ds)) (λ d rest _. gives (record { own = refl; said = refl; members = refl }))
+  suspect-says a n s ds = after-then (any (pushed address _ _ _ _ ds)) (λ d rest _. gives (record { own = refl; settings = refl; said = refl; members = refl }))
 
   -- whom the group's pick gives
   not-passed : (own a b : A) (u : Bool) → address .same own b ≡ u → pick u true (address .same a b) ≡ false → (address .same own b ≡ false) × (address .same a b ≡ false)
@@ -128,6 +151,16 @@ module _ {A : Type 0} (address : Address A) (lawful : Lawful address) where
       (q .1))
       (pick-listed (address .same) (lawful .test) (address .blank) (o .node .own) (some a) (o .node .settings .«ping_req_group_size») (o .node .members) ds whole)
 
+  -- and how many: as many as are wanted, of those that are listed but for two
+  group-many : (a : A) (n : ℕ) (s : Node A) (o : Out A) (ds : List ℕ) → Whole (address .same) (s .members) → Suspects a n s o
+      → After (λ p. length (p .picks) ≡ asksMany address s) (pickGroup address a (o .node) ds)
+  unfolding pickGroup update
+  group-many a n s o ds w v =
+      let whole : Whole (address .same) (o .node .members) = rw (v .members) (update-whole (address .same) (lawful .test) (record { addr = a; state = state.Suspected; number = n }) (s .members) w) in
+      after-map
+      (λ p c. c .many ∙ zero-add _ ∙ (λ i. min (v .settings i .«ping_req_group_size») (length (v .members i .order) - 2)) ∙ ap (λ (k : ℕ). min (s .settings .«ping_req_group_size») (k - 2)) (w .long))
+      (after-drawn (pick-ends (address .same) (address .blank) (o .node .own) (some a) (o .node .settings .«ping_req_group_size») (o .node .members) ds whole))
+
   step-moves : (st : WaitState A) (now : ℕ) (s : Node A) (ds : List ℕ) → Whole (address .same) (s .members) → After (Moved s now st) (step address st now s ds)
   unfolding sendPing sendPingReq asked declare spread
   step-moves SendingPing now s ds w =
@@ -136,7 +169,8 @@ module _ {A : Type 0} (address : Address A) (lawful : Lawful address) where
   step-moves (WaitingForPingAck a n) now s ds w = waited-moves a _ _ now s ds (λ e q u. m-unheard q u)
   step-moves (SendingPingReq a n) now s ds w =
       after-then (suspect-says a n s ds)
-      (λ o rest v. after-then (group-asks a n s o rest w v) (λ p rest₂ q. gives (m-asks refl (v .said) (each-asks s a (p .picks) (withMembers (o .node) (p .members)) [] (v .own) q nil))))
+      (λ o rest v. after-then {P = λ p. Each (λ b. Peer address b s × (address .same a b ≡ false)) (p .picks) × (length (p .picks) ≡ asksMany address s)} (after-both (λ p x y. (x, y)) (group-asks a n s o rest w v) (group-many a n s o rest w v))
+      (λ p rest₂ q. gives (m-asks refl (v .said) (each-asks s a (p .picks) (withMembers (o .node) (p .members)) [] (v .own) (q .0) nil) (each-count a (p .picks) (withMembers (o .node) (p .members)) [] ∙ zero-add _ ∙ q .1))))
   step-moves (WaitingForPingReqAck a n) now s ds w = waited-moves a _ _ now s ds (λ e q u. m-still q u)
   step-moves (Declaring a n) now s ds w = after-when (λ _. halts) (λ _. gives (m-rests refl))
 
@@ -146,8 +180,8 @@ module _ {A : Type 0} (address : Address A) (lawful : Lawful address) where
     moved-next st o e q d v ms es (m-rests r) = rests (ap (λ (x : Wait A). x .state) v ∙ r)
     moved-next _ o e q d v ms es (m-pings x n gs r l k g) = pings x n now gs (record { call = is; found = q; due = due-at w now _ q d; left = v ∙ r }) l k (ms ∙ g)
     moved-next _ o e q d v ms es (m-unheard {x} {n} r u) = unheard x n now (record { call = is; found = q; due = due-at w now _ q d; left = v ∙ r }) u
-    moved-next _ o e q d v ms es (m-asks {x} {n} r k f) =
-        asks x n now (record { call = is; found = q; due = due-at w now _ q d; left = v ∙ r }) (es ∙ k) (subst (Each (Request address x (loaded (w .node)))) (sym ms) f)
+    moved-next _ o e q d v ms es (m-asks {x} {n} r k f c) =
+        asks x n now (record { call = is; found = q; due = due-at w now _ q d; left = v ∙ r }) (es ∙ k) (subst (Each (Request address x (loaded (w .node)))) (sym ms) f) (ap length ms ∙ c)
     moved-next _ o e q d v ms es (m-still {x} {n} r u) = still x n now (record { call = is; found = q; due = due-at w now _ q d; left = v ∙ r }) u
 
     kept-next : (ds : List ℕ) {x : Answer (Stepped A)} → due (w .node .settings) (w .wait) now ≡ true → After (Moved (loaded (w .node)) now (w .wait .state)) x

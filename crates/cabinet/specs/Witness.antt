@@ -12,7 +12,7 @@ use borrow.Author.Tests.{eqb-true, eq-eqb}
 use Rattle.model.specs.declared.Settings.{Settings}
 use Rattle.model.specs.declared.State.the-variants.{Alive}
 use Rattle.model.specs.Bounds.{Room}
-use Rattle.model.specs.Words.{Address, Lawful, Member, Joined, Suspected, Deceased, Gossip, Ack, SendingPing, Wait}
+use Rattle.model.specs.Words.{Address, Lawful, Member, Joined, Suspected, Deceased, Gossip, Ack, SendingPing, SendingPingReq, Wait}
 use Rattle.model.specs.Words as words
 use Rattle.model.specs.Answers as answers
 use Rattle.model.specs.Rows as rows
@@ -200,3 +200,22 @@ first-of (cons p ps) = p
 pub asked-for : AskedFor numbers begins (t₂ ∷ h₂) 3 0
 unfolding answers.when rows.swap limit.leastFrom limit.leastPower limit.limitOf heap.climbIn heap.climb heap.lower heap.downIn heap.down heap.push heap.sinkTop heap.removeTop heap.allBelow choosing.termsOf choosing.wasNoted choosing.takeTop choosing.tryHeap choosing.tryAlive choosing.tryDeceased choosing.over choosing.rounds choosing.choose choosing.orElse choosing.death list.shuffle list.advance list.update list.seek list.pickFrom M.quiet M.andMore M.change M.spread M.loaded M.stored handler.acked handler.handle D.isOver D.due D.pinged D.sendPing D.heard D.waited sounds.inRange sounds.positioned sounds.soundEntry sounds.soundHeap sounds.soundRows sounds.soundMembers sounds.soundTimers sounds.soundDeparted sounds.sound lamps.lampsOf calls.validAction calls.validState calls.message calls.detect words.partsOf handler.forwarded words.sameGossip collecting.isOld collecting.collects collecting.cleared collecting.rebuilt heap.pushAll rows.those rows.count gone.makeRoom gone.lookUp gone.without gone.depart gone.departs gone.deathOf list.remove sizes.varintFrom sizes.varintLength sizes.numberSize sizes.sizeOver sizes.sizeOf D.firstOver D.fateOf D.byFate D.endAt calls.endTimer calls.create calls.addPeer M.leave M.fresh sounds.validGossip handler.believed handler.causeAt handler.joinedAt handler.joined handler.recovered handler.suspectedOther handler.suspected handler.deceased handler.judgeSender handler.listAfter handler.rowAfter handler.newsOf handler.act handler.item handler.stopsAt handler.admit handler.answerTo M.pushed M.emit list.added list.add D.suspect D.asked D.pickGroup D.sendPingReq D.declare
 asked-for = first-of {g = record { event = Suspected 2 3 0 }} {gs = []} (reports numbers numbers-lawful begins all-fresh h₂ (honest₂ .1) t₂ (honest₂ .0))
+
+-- What is asked of a silent peer is its state, and that is all that can be: here 3's own Ack came in time, and after it a suspicion that was made up. The probe goes on to the ping requests
+abbrev h₃ : List (Turn ℕ)
+h₃ =
+    turn 0 (Receive (Ack 9 none) (record { event = Suspected 8 3 0 } ∷ []) draws room)
+    ∷ turn 0 (Receive (Ack 3 none) [] draws room)
+    ∷ turn 0 (Step 10 draws room)
+    ∷ turn 0 (Add 3 0 draws)
+    ∷ turn 0 (Add 2 0 draws)
+    ∷ []
+
+pub answered-and-suspected : cabinets.worlds numbers begins (turn 0 (Step 20 draws room) ∷ h₃) 0 .wait ≡ enters (SendingPingReq 3 0) 20
+unfolding answers.when rows.swap limit.leastFrom limit.leastPower limit.limitOf heap.climbIn heap.climb heap.lower heap.downIn heap.down heap.push heap.sinkTop heap.removeTop heap.allBelow choosing.termsOf choosing.wasNoted choosing.takeTop choosing.tryHeap choosing.tryAlive choosing.tryDeceased choosing.over choosing.rounds choosing.choose choosing.orElse choosing.death list.shuffle list.advance list.update list.seek list.pickFrom M.quiet M.andMore M.change M.spread M.loaded M.stored handler.acked handler.handle D.isOver D.due D.pinged D.sendPing D.heard D.waited sounds.inRange sounds.positioned sounds.soundEntry sounds.soundHeap sounds.soundRows sounds.soundMembers sounds.soundTimers sounds.soundDeparted sounds.sound lamps.lampsOf calls.validAction calls.validState calls.message calls.detect words.partsOf handler.forwarded words.sameGossip collecting.isOld collecting.collects collecting.cleared collecting.rebuilt heap.pushAll rows.those rows.count gone.makeRoom gone.lookUp gone.without gone.depart gone.departs gone.deathOf list.remove sizes.varintFrom sizes.varintLength sizes.numberSize sizes.sizeOver sizes.sizeOf D.firstOver D.fateOf D.byFate D.endAt calls.endTimer calls.create calls.addPeer M.leave M.fresh sounds.validGossip handler.believed handler.causeAt handler.joinedAt handler.joined handler.recovered handler.suspectedOther handler.suspected handler.deceased handler.judgeSender handler.listAfter handler.rowAfter handler.newsOf handler.act handler.item handler.stopsAt handler.admit handler.answerTo M.pushed M.emit list.added list.add D.suspect D.asked D.pickGroup D.sendPingReq D.declare
+answered-and-suspected = refl
+
+-- without that suspicion it rests
+pub answered : cabinets.worlds numbers begins (turn 0 (Step 20 draws room) ∷ turn 0 (Receive (Ack 3 none) [] draws room) ∷ turn 0 (Step 10 draws room) ∷ turn 0 (Add 3 0 draws) ∷ turn 0 (Add 2 0 draws) ∷ []) 0 .wait ≡ enters SendingPing 20
+unfolding answers.when rows.swap limit.leastFrom limit.leastPower limit.limitOf heap.climbIn heap.climb heap.lower heap.downIn heap.down heap.push heap.sinkTop heap.removeTop heap.allBelow choosing.termsOf choosing.wasNoted choosing.takeTop choosing.tryHeap choosing.tryAlive choosing.tryDeceased choosing.over choosing.rounds choosing.choose choosing.orElse choosing.death list.shuffle list.advance list.update list.seek list.pickFrom M.quiet M.andMore M.change M.spread M.loaded M.stored handler.acked handler.handle D.isOver D.due D.pinged D.sendPing D.heard D.waited sounds.inRange sounds.positioned sounds.soundEntry sounds.soundHeap sounds.soundRows sounds.soundMembers sounds.soundTimers sounds.soundDeparted sounds.sound lamps.lampsOf calls.validAction calls.validState calls.message calls.detect words.partsOf handler.forwarded words.sameGossip collecting.isOld collecting.collects collecting.cleared collecting.rebuilt heap.pushAll rows.those rows.count gone.makeRoom gone.lookUp gone.without gone.depart gone.departs gone.deathOf list.remove sizes.varintFrom sizes.varintLength sizes.numberSize sizes.sizeOver sizes.sizeOf D.firstOver D.fateOf D.byFate D.endAt calls.endTimer calls.create calls.addPeer M.leave M.fresh sounds.validGossip handler.believed handler.causeAt handler.joinedAt handler.joined handler.recovered handler.suspectedOther handler.suspected handler.deceased handler.judgeSender handler.listAfter handler.rowAfter handler.newsOf handler.act handler.item handler.stopsAt handler.admit handler.answerTo M.pushed M.emit list.added list.add D.suspect D.asked D.pickGroup D.sendPingReq D.declare
+answered = refl

@@ -14,10 +14,11 @@ use Rattle.model.specs.Words as W
 use Rattle.model.specs.Node as M
 use Rattle.history.specs.Beginnings.{Beginning}
 use Rattle.history.specs.Histories.{World, Call, outcome, worldOf}
-use Rattle.cabinet.specs.Cabinets.{Topic, deaths, suspicions, Turn, InGossip, InHeap, InMessages, Brings, Fresh, fresh, worlds, given, sent, Honest, TimedOut, AskedFor}
+use Rattle.cabinet.specs.Cabinets.{Topic, deaths, suspicions, Turn, InGossip, InHeap, InMessages, Brings, Fresh, fresh, worlds, given, sent, Honest, Mute, Pinging, Unheard, Asking, StillUnheard, TimedOut, AskedFor}
 use Rattle.cabinet.specs.NoForgedDeath as death
 use Rattle.cabinet.specs.NoForgedDeath.{Struck}
 use Rattle.cabinet.specs.NoForgedSuspicion as suspicion
+use Rattle.cabinet.specs.Hearing as hearing
 use Rattle.types.specs.declared.Gossip.{Gossip}
 use Rattle.node.specs.declared.Node.{Node}
 use Rattle.node.specs.Views.{storedView, viewNode}
@@ -88,6 +89,13 @@ module _ (first : ℕ → Seat) where
   module _ (began : (j : ℕ) → Began (first j)) where
     all-fresh : (j : ℕ) → Fresh here (begins j)
     all-fresh j = begun-fresh j (began j)
+
+    -- whom a controller found silent when a wait was over has not answered it since the ping, nor since the ping requests
+    pub unanswered : (j : ℕ) (x : Addr) (n now : ℕ) (t : Turn Addr) (h : List (Turn Addr)) (u : Unheard here begins j x n now t h) → Mute here begins j x (Pinging here begins j x n (u .entered)) h
+    unanswered j x = hearing.unanswered here here-lawful begins all-fresh j x
+
+    pub still-unanswered : (j : ℕ) (x : Addr) (n now : ℕ) (t : Turn Addr) (h : List (Turn Addr)) (u : StillUnheard here begins j x n now t h) → Mute here begins j x (Asking here begins j x n (u .entered)) h
+    still-unanswered j x = hearing.still-unanswered here here-lawful begins all-fresh j x
 
     module _ {k : Topic} {h : List (Turn Addr)} {seats : ℕ → Seat} {ms : List (W.Message Addr)} (g : Goes k first h seats ms) where
       same : Same k h seats ms
