@@ -1,4 +1,4 @@
-// An address: a family, 128 bits as two numbers, and a port. The only crate that looks inside one.
+// An address: a family, 128 bits as two numbers, and a port. Beside this crate only its texts, its saved bytes and its words look inside one.
 use model::both;
 ghost use mathlib.Core.Path.{_≡_};
 ghost use Prim.Native.Nat.{_≤_, _<_};
@@ -64,7 +64,9 @@ pub fn slot(a: Address) -> usize
     ensures { λ r. ⌜ (r ≡ here-slot a) × (r < 1024) ⌝ }
 {
     let port = wide(a.port);
-    let mixed = (a.high % 1024 + a.low % 1024 + port % 1024) % 1024;
+    let near = a.low % 1024 + port % 1024;
+    let far = a.low / 1024 % 1024 * 131 + a.low / 1048576 % 4096 * 37;
+    let mixed = (a.high % 1024 * 61 + far + near) % 1024;
     mixed as usize
 }
 

@@ -5,3 +5,5 @@ pub mod Exactly
 pub mod Back
 pub mod Malformed
 pub mod Rfc5952
+pub mod Texts
+pub mod Groups

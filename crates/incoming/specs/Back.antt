@@ -166,7 +166,7 @@ fields-short from o gs fs =
     )
 
 -- the action as a field of the whole
-silent-resumed : (k : ℕ) → resumed unsent k ≡ silent
+pub silent-resumed : (k : ℕ) → resumed unsent k ≡ silent
 unfolding resumed
 silent-resumed k = elim (eqb 0 k) as (λ u. pick u silent silent ≡ silent) [ true ↦ refl | false ↦ refl ]
 

@@ -1,4 +1,6 @@
 // A whole datagram: one of three actions, by its field number.
+pub mod bare;
+
 use actions::Small;
 use address::Address;
 use fields::Field;
@@ -48,6 +50,23 @@ pub enum Made {
     Whole(Action),
 }
 
+// The texts of an action that has no other field, its sender's first; or it is longer.
+pub enum Texts {
+    Longer,
+    Both { from: Text, other: Text },
+}
+
+// What a datagram says that is one action without records; or it is longer.
+pub enum Brief {
+    Longer,
+    Told(Decoded),
+}
+
+impl Brief {
+    // Of such a datagram: three keys and counts, and two texts of at most 47 bytes.
+    pub const LONGEST: usize = 100;
+}
+
 // The action of a kind. A ping's and an ack's other address may be missing.
 fn action_of(kind: u64, from: Address, other: Text) -> Made
     ensures { λ r. ⌜ r ≡ actionOf kind from other ⌝ }
@@ -80,7 +99,7 @@ fn action_of(kind: u64, from: Address, other: Text) -> Made
 }
 
 // What the fields of a whole datagram of some length come to.
-fn judged(kind: u64, s: Small, len: usize) -> Decoded
+pub fn judged(kind: u64, s: Small, len: usize) -> Decoded
     ensures { λ r. ⌜ r ≡ judgeOf kind (s .from) (s .other) (s .bad) len ⌝ }
 {
     if kind == 0 {
@@ -226,6 +245,16 @@ pub fn read(bytes: &[u8], places: usize) -> Taken
             row: blank(),
             answer: Reading::Refused(Refusal::ShortRow),
         };
+    }
+    match bare::read(bytes) {
+        Brief::Told(decoded) => {
+            return Taken {
+                count: 0,
+                row: blank(),
+                answer: told(decoded, 0),
+            };
+        }
+        Brief::Longer => {}
     }
     let d = decode(bytes);
     let decoded = d.answer;

@@ -4,14 +4,15 @@ use crate::Members;
 use crate::lamps::lamps_of;
 use address::Address;
 use model::State;
+use model::both;
 ghost use mathlib.Core.Path.{_≡_};
 ghost use mathlib.Core.Bool.{_&&_};
 ghost use mathlib.Core.List.{map};
 ghost use Prim.Native.Nat.{_≤_};
+ghost use lib.Dec.{ltb};
 ghost use lib.ListN.{length, take, drop};
 ghost use Rattle.address.specs.Here.{here};
 ghost use Rattle.model.specs.Rows.{every};
-ghost use Rattle.laws_list.specs.Places.{placeOf};
 ghost use Rattle.model.specs.Sound.{distinct, permutes, positioned, isNoMember, soundMembers};
 ghost use Rattle.member.specs.Views.{toMember, addrOf, blankAddress};
 ghost use Rattle.member.specs.Drawers.{Firsts};
@@ -55,24 +56,16 @@ fn first_places(order: [Address; Members::CAPACITY], n: usize) -> [usize; 64]
     out
 }
 
-// The first place of an address, or n: at first sight where it is the first of its drawer, else by a scan.
-fn seek(order: [Address; Members::CAPACITY], firsts: &[usize; 64], n: usize, a: Address) -> usize
-    requires { ⌜ (n ≤ 64) × Firsts order n (now firsts) 0 ⌝ }
-    ensures { λ r. ⌜ r ≡ placeOf (here .same) a (take n order) ⌝ }
-    ensures within { λ r. ⌜ r ≤ n ⌝ }
+// Does an address stand at a place of the first n, where another one stands?
+fn stands_at(a: Address, other: Address, place: usize, n: usize) -> bool
+    ensures { λ r. ⌜ r ≡ (ltb place n && here .same a other) ⌝ }
 {
-    let place = firsts[address::drawer(a)];
-    if n <= place {
-        return order::find_place(order, n, a);
-    }
-    if address::same(a, order[place]) {
-        return place;
-    }
-    order::find_place(order, n, a)
+    let within = place < n;
+    both(within, address::same(a, other))
 }
 
 // Are the first n of a row distinct, and those of the order a permutation of them? One pass that marks: each is found in the order, at a place
-// that none before it was found at.
+// that none before it was found at: at first sight where it is the first of its drawer, else by a scan.
 pub fn matches(
     row: [Address; Members::CAPACITY],
     order: [Address; Members::CAPACITY],
@@ -85,7 +78,13 @@ pub fn matches(
     let mut marks = [false; Members::CAPACITY];
     let mut i = 0;
     while i < n {
-        let place = seek(order, &firsts, n, row[i]);
+        let a = row[i];
+        let first = firsts[address::drawer(a)];
+        let there = order[first % Members::CAPACITY];
+        let mut place = first;
+        if !stands_at(a, there, first, n) {
+            place = order::find_place(order, n, a);
+        }
         if place == n {
             return false;
         }

@@ -1,12 +1,12 @@
 // Standard input, cut into lines.
 use crate::calls::obey;
-use crate::host::Host;
-use crate::tells::put_old;
+use keeper::Host;
 use libc::STDERR_FILENO;
 use libc::STDIN_FILENO;
 use report::flush;
 use report::put_bytes;
 use report::put_number;
+use telling::put_old;
 use text::read_line;
 use words::find;
 ghost use mathlib.Core.Path.{_≡_};

@@ -1,4 +1,5 @@
 pub mod Exactly
+pub mod Plain
 pub mod Restarts
 pub mod Worked
 pub mod Salvages

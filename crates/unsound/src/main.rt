@@ -1,4 +1,4 @@
-// Refusal 2: a sound node, changed as each line of a script says, is handed to every call.
+// Refusal 2: a sound node, changed as each line of a script says, is handed to the calls that change a node, and to `why`.
 // A line is a clause, then changes, each behind a bar: a letter and numbers (see `change.rt`).
 mod change;
 mod made;

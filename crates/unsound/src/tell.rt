@@ -1,4 +1,4 @@
-// A node is handed to every call, and the refusals' numbers are written; 0 is no refusal.
+// A node is handed to each of those calls, and the refusals' numbers are written; 0 is no refusal.
 use crate::made::at;
 use libc::STDOUT_FILENO;
 use model::Reply;

@@ -1,9 +1,4 @@
 // A line's command, called, and what it did to the list told.
-use crate::calls::is_refused;
-use crate::calls::lend_rows;
-use crate::calls::lend_wait;
-use crate::calls::rows_for;
-use crate::host::Host;
 use address::Address;
 use facts::Kind;
 use facts::Told;
@@ -14,6 +9,11 @@ use facts::put_mark;
 use facts::put_numbered;
 use facts::put_refused;
 use facts::put_restored;
+use keeper::Host;
+use keeper::is_refused;
+use keeper::lend_rows;
+use keeper::lend_wait;
+use keeper::rows_for;
 use model::Reply;
 use model::Settings;
 use node::Node;

@@ -1,11 +1,14 @@
-// What a host keeps from call to call.
+// What the program keeps from line to line of a script: the node, what is lent, its words, and how far it is.
+use model::Reply;
 use node::Node;
 use report::put_byte;
 use report::put_bytes;
 use report::put_marked;
 use report::put_number;
 use show::put_state;
+use text::Phase;
 use wait::Wait;
+use wait::WaitState;
 
 // How many gossip and event places are lent, if a script says so.
 pub enum Rooms {
@@ -129,5 +132,81 @@ impl Host {
         let end = put_byte(out, number, b'\n');
         host.unwritten = end;
         host
+    }
+}
+
+// The places lent to a call.
+pub struct Rows {
+    pub gossip: usize,
+    pub events: usize,
+}
+
+// The places lent to a call that needs so many.
+pub fn rows_for(rooms: Rooms, gossip: usize, events: usize) -> Rows {
+    match rooms {
+        Rooms::AsNeeded => Rows { gossip, events },
+        Rooms::Lent {
+            gossip: lent,
+            events: others,
+        } => Rows {
+            gossip: lent,
+            events: others,
+        },
+    }
+}
+
+pub fn is_refused(reply: Reply) -> bool {
+    match reply {
+        Reply::Done(_) => false,
+        Reply::Already => false,
+        Reply::NotDue => false,
+        Reply::Refuted => false,
+        Reply::Gone => false,
+        Reply::Refused(_) => true,
+        Reply::RefusedAt(_, _) => true,
+    }
+}
+
+fn wait_state(phase: Phase) -> WaitState {
+    match phase {
+        Phase::SendingPing => WaitState::SendingPing,
+        Phase::WaitingForPingAck { target, number } => {
+            WaitState::WaitingForPingAck { target, number }
+        }
+        Phase::SendingPingReq { target, number } => WaitState::SendingPingReq { target, number },
+        Phase::WaitingForPingReqAck { target, number } => {
+            WaitState::WaitingForPingReqAck { target, number }
+        }
+        Phase::Declaring { target, number } => WaitState::Declaring { target, number },
+    }
+}
+
+// Before there is a node, what is lent is forgotten: a creation starts afresh.
+pub fn lend_wait(mut host: Host, phase: Phase, tick: u32) -> Host {
+    let state = wait_state(phase);
+    let wait = Wait { state, since: tick };
+    host.wait = wait;
+    host
+}
+
+pub fn lend_rows(host: Host, gossip: usize, events: usize) -> Host {
+    let node = host.node;
+    let wait = host.wait;
+    Host {
+        node,
+        wait,
+        rooms: Rooms::Lent { gossip, events },
+        has_node: host.has_node,
+        is_quiet: host.is_quiet,
+        is_numbered: host.is_numbered,
+        is_audit: host.is_audit,
+        is_watched: host.is_watched,
+        has_ended: host.has_ended,
+        is_broken: host.is_broken,
+        calls: host.calls,
+        malformed: host.malformed,
+        line: host.line,
+        kept: host.kept,
+        unwritten: host.unwritten,
     }
 }

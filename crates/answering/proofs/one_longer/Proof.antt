@@ -1,11 +1,11 @@
--- `replayer::calls::one_longer` is safe and ends: each turn copies one place.
+-- `answering::one_longer` is safe and ends: each turn copies one place.
 -- Assumes nothing.
 use mathlib.Core.Path.{_≡_}
 use Prim.Native.Nat.{_-_, _≤_}
 use lib.ListN.{length}
 use borrow.Author.Needs.{needs}
-use Rattle.replayer.proofs.calls.one_longer.Statement.{statement}
-use Rattle.replayer.proofs.calls.one_longer.Tie as tie
+use Rattle.answering.proofs.one_longer.Statement.{statement}
+use Rattle.answering.proofs.one_longer.Tie as tie
 
 abbrev Inv-loop : tie.InvT-loop
 Inv-loop rows out₀ i₀ out i = (i ≤ 64) × (length out ≡ 65)
