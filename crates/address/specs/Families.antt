@@ -49,7 +49,7 @@ textOf a = pick (eqb (a .family) 6) (text6 (a .high) (a .low) (a .port)) (text (
 unfoldable pub charsOf : Addr → ℕ
 charsOf a = pick (eqb (a .family) 6) (length (text6 (a .high) (a .low) (a .port))) (textLength (number a))
 
--- one of 1024 slots, by which an address is told from others; no rule reads it. Addresses that differ in one octet or in the port have different ones
+-- one of 1024 slots, by which an address is told from others; no rule reads it. Addresses of IPv4 that differ in one of the last three octets alone have different ones
 unfoldable pub slotOf : Addr → ℕ
 slotOf a = (a .high % 1024 * 61 + (a .low / 1024 % 1024 * 131 + a .low / 1048576 % 4096 * 37) + (a .low % 1024 + a .port % 1024)) % 1024
 
