@@ -39,16 +39,21 @@ static inline void put_heap(const char *letter, const swim_entry *e, uint64_t us
     }
     fputs("\n", SWIM_OUT);
 }
+/* By the calls, not by the words: what the lookups and the lamps answer is held to what replay shows. */
 static inline void put_list(const swim_node *n) {
+    uint64_t count = 0;
+    swim_member found;
+    swim_lamps lamps;
+    swim_how_many(n, &count);
     fprintf(SWIM_OUT, "@ %" U, n->position);
-    for (uint64_t i = 0; i < n->listed; i++)
-        for (uint64_t j = 0; j < n->listed; j++)
-            if (!memcmp(&n->members[j].address, &n->order[i], sizeof n->order[i])) {
-                fputs(" ", SWIM_OUT);
-                put_address(&n->order[i]);
-                fprintf(SWIM_OUT, ":%c:%" U, "aps"[n->members[j].state], n->members[j].number);
-            }
-    fprintf(SWIM_OUT, "\nl %" U " %" U " %" U "\n", n->lamps.alive, n->lamps.pending, n->lamps.suspected);
+    for (uint64_t i = 0; i < count; i++)
+        if (swim_look_up(n, &n->order[i], &found) == SWIM_KEPT) {
+            fputs(" ", SWIM_OUT);
+            put_address(&found.address);
+            fprintf(SWIM_OUT, ":%c:%" U, "aps"[found.state], found.number);
+        }
+    swim_lamps_of(n, &lamps);
+    fprintf(SWIM_OUT, "\nl %" U " %" U " %" U "\n", lamps.alive, lamps.pending, lamps.suspected);
 }
 static inline void put_state(const swim_node *n, const swim_wait *w) {
     put_list(n);

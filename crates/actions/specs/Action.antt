@@ -10,7 +10,9 @@ use Rattle.model.specs.Rows.{pick}
 use Rattle.types.specs.declared.Gossip.{Gossip}
 use Rattle.types.specs.Views.{noGossip}
 use Rattle.fields.specs.declared.Field.{Field}
-use Rattle.fields.specs.Field.{content}
+use Rattle.fields.specs.declared.Next.{Next}
+use Rattle.fields.specs.declared.Next.the-variants.{Stopped, Found}
+use Rattle.fields.specs.Field.{content, nextIn}
 use Rattle.fields.specs.Walk.{Read, stopped, read, andThen, Step, walk}
 use Rattle.iptext.specs.declared.Text.{Text}
 use Rattle.iptext.specs.declared.Text.the-variants.{Empty}
@@ -22,6 +24,8 @@ use Rattle.actions.specs.declared.Piece.{Piece}
 use Rattle.actions.specs.declared.Piece.the-variants.{Unknown, From, Other, News}
 use Rattle.actions.specs.declared.PieceRead.{PieceRead}
 use Rattle.actions.specs.declared.PieceRead.the-variants as piece
+use Rattle.actions.specs.declared.FirstRead.{FirstRead}
+use Rattle.actions.specs.declared.FirstRead.the-variants as first
 use Rattle.actions.specs.declared.Turn.{Turn}
 use Rattle.actions.specs.declared.Acted.{Acted}
 
@@ -60,6 +64,18 @@ actionStep a place bytes f = andThen (pieceAt place bytes f) (λ p. read (put a 
 abbrev pub asPiece : Read Piece → PieceRead
 asPiece (stopped place) = piece.Stopped place
 asPiece (read p) = piece.Read p
+
+-- the first field of some bytes: what it says, and its size
+abbrev pub sized : Field → Read Piece → FirstRead
+sized f (stopped place) = first.Stopped place
+sized f (read p) = first.Read p (f .size)
+
+abbrev pub firstIn : ℕ → List ℕ → Next → FirstRead
+firstIn place bytes Stopped = first.Stopped place
+firstIn place bytes (Found f) = sized f (pieceAt place bytes f)
+
+unfoldable pub firstOf : ℕ → List ℕ → FirstRead
+firstOf place bytes = firstIn place bytes (nextIn bytes)
 
 -- the same on a row of 65 places, of which the first 64 are kept, and a count that ends at 65
 abbrev pub unmovedOf : Small → Turn

@@ -15,10 +15,11 @@ use Rattle.types.specs.Views.{noGossip}
 use Rattle.fields.specs.declared.Field.{Field}
 use Rattle.fields.specs.Field.{content}
 use Rattle.fields.specs.Walk.{Read, stopped, read, andThen, walk}
-use Rattle.fields.specs.declared.Next.the-variants.{Found}
+use Rattle.fields.specs.declared.Next.{Next}
+use Rattle.fields.specs.declared.Next.the-variants.{Stopped, Found}
 use Rattle.fields.specs.Field.{nextIn}
 use Rattle.fields.specs.FieldLaws.{next-lies}
-use Rattle.fields.specs.Walks.{Going}
+use Rattle.fields.specs.Walks.{Going, going-stop, going-refuse, going-more}
 use Rattle.iptext.specs.declared.Text.{Text}
 use Rattle.events.specs.declared.TextField.{TextField}
 use Rattle.events.specs.declared.TextField.the-variants as text
@@ -32,9 +33,11 @@ use Rattle.actions.specs.declared.Piece.{Piece}
 use Rattle.actions.specs.declared.Piece.the-variants.{Unknown, From, Other, News}
 use Rattle.actions.specs.declared.PieceRead.{PieceRead}
 use Rattle.actions.specs.declared.PieceRead.the-variants as piece
+use Rattle.actions.specs.declared.FirstRead.{FirstRead}
+use Rattle.actions.specs.declared.FirstRead.the-variants as first
 use Rattle.actions.specs.declared.Turn.{Turn}
 use Rattle.actions.specs.declared.Acted.{Acted}
-use Rattle.actions.specs.Action.{Acting, pieceAt, put, actionStep, asPiece, turnOf, Shows, Given, Acts}
+use Rattle.actions.specs.Action.{Acting, pieceAt, put, actionStep, asPiece, sized, firstIn, firstOf, turnOf, Shows, Given, Acts}
 
 module _ (place : ℕ) (bytes : List ℕ) (f : Field) where
   module _ (h : f .number ≡ 1) where
@@ -89,16 +92,16 @@ module _ (place : ℕ) (bytes : List ℕ) (f : Field) where
   unknown-read a b c = sym (simp (ne-eqb (f .number) 1 a, ne-eqb (f .number) 2 b, ne-eqb (f .number) 3 c))
 
 -- the two answers of a field
-pub was-stopped : (r : Read Piece) (m : PieceRead) (p : ℕ) → m ≡ asPiece r → m ≡ piece.Stopped p → stopped p ≡ r
+was-stopped : (r : Read Piece) (m : PieceRead) (p : ℕ) → m ≡ asPiece r → m ≡ piece.Stopped p → stopped p ≡ r
 was-stopped (stopped q) m p e h = let z : p ≡ q = cc in ap stopped z
 was-stopped (read s) m p e h = let z : _≡_ {A = ℕ} 0 1 = cc in absurd (omega arith)
 
-pub was-read : (r : Read Piece) (m : PieceRead) (s : Piece) → m ≡ asPiece r → m ≡ piece.Read s → read s ≡ r
+was-read : (r : Read Piece) (m : PieceRead) (s : Piece) → m ≡ asPiece r → m ≡ piece.Read s → read s ≡ r
 was-read (stopped q) m s e h = let z : _≡_ {A = ℕ} 0 1 = cc in absurd (omega arith)
 was-read (read t) m s e h = let z : s ≡ t = cc in ap read z
 
 -- what the step of an action makes of them
-pub step-stop : (a : Acting) (place : ℕ) (bytes : List ℕ) (f : Field) (p : ℕ) → stopped p ≡ pieceAt place bytes f → stopped p ≡ actionStep a place bytes f
+step-stop : (a : Acting) (place : ℕ) (bytes : List ℕ) (f : Field) (p : ℕ) → stopped p ≡ pieceAt place bytes f → stopped p ≡ actionStep a place bytes f
 unfolding actionStep andThen
 step-stop a place bytes f p e = sym (ap (λ (r : Read Piece). andThen r (λ p. read (put a p))) (sym e))
 
@@ -180,6 +183,62 @@ size-at bytes rest at f e h q =
     let w = next-lies rest f (sym q) in
     let l : length rest ≡ length bytes - at = ap (λ (x : List ℕ). length x) e ∙ length-drop at bytes in
     (omega (arith, w .some, w .begins), omega (arith, w .ends))
+
+-- the first field: none is whole, it stops, or it is read
+module _ (place : ℕ) (bytes : List ℕ) where
+  pub first-none : Stopped ≡ nextIn bytes → first.Stopped place ≡ firstOf place bytes
+  unfolding firstOf
+  first-none q = ap (firstIn place bytes) q
+
+  pub first-some : (f : Field) (m : PieceRead) → Found f ≡ nextIn bytes → m ≡ asPiece (pieceAt place bytes f) → (p : ℕ) → m ≡ piece.Stopped p → first.Stopped p ≡ firstOf place bytes
+  unfolding firstOf
+  first-some f m q e p h = ap (sized f) (was-stopped (pieceAt place bytes f) m p e h) ∙ ap (firstIn place bytes) q
+
+  pub first-whole : (f : Field) (m : PieceRead) → Found f ≡ nextIn bytes → m ≡ asPiece (pieceAt place bytes f) → (s : Piece) → m ≡ piece.Read s → first.Read s (f .size) ≡ firstOf place bytes
+  unfolding firstOf
+  first-whole f m q e s h = ap (sized f) (was-read (pieceAt place bytes f) m s e h) ∙ ap (firstIn place bytes) q
+
+  sized-stop : (f : Field) (r : Read Piece) (p : ℕ) → first.Stopped p ≡ sized f r → stopped p ≡ r
+  sized-stop f (stopped q) p e = let z : p ≡ q = cc in ap stopped z
+  sized-stop f (read s) p e = let z : _≡_ {A = ℕ} 0 1 = cc in absurd (omega arith)
+
+  sized-read : (f : Field) (r : Read Piece) (s : Piece) (n : ℕ) → first.Read s n ≡ sized f r → (read s ≡ r) × (n ≡ f .size)
+  sized-read f (stopped q) s n e = let z : _≡_ {A = ℕ} 0 1 = cc in absurd (omega arith)
+  sized-read f (read t) s n e = let z : s ≡ t = cc in (ap read z, cc)
+
+  size-in : (v : Next) → v ≡ nextIn bytes → (s : Piece) (n : ℕ) → first.Read s n ≡ firstIn place bytes v → (1 ≤ n) × (n ≤ length bytes)
+  size-in Stopped q s n e = let z : _≡_ {A = ℕ} 0 1 = cc in absurd (omega arith)
+  size-in (Found f) q s n e =
+      let w = next-lies bytes f (sym q) in
+      let z = sized-read f (pieceAt place bytes f) s n e in
+      (omega (arith, w .some, w .begins, z .1), omega (arith, w .ends, z .1))
+
+  -- it takes a byte at least, and none that isn't there
+  pub first-size : (s : Piece) (n : ℕ) → first.Read s n ≡ firstOf place bytes → (1 ≤ n) × (n ≤ length bytes)
+  unfolding firstOf
+  first-size s n e = size-in (nextIn bytes) refl s n e
+
+-- what it does to a walk
+module _ (place : ℕ) (bytes : List ℕ) (a₀ : Acting) (at : ℕ) (a : Acting) (g : Going actionStep place bytes a₀ at a) (rest : List ℕ) (e : rest ≡ drop at bytes) (h : at < length bytes) where
+  stop-in : (v : Next) → v ≡ nextIn rest → (p : ℕ) → first.Stopped p ≡ firstIn (place + at) rest v → stopped p ≡ walk actionStep place bytes a₀
+  stop-in Stopped q p r = let z : p ≡ place + at = cc in ap stopped z ∙ going-stop actionStep place bytes a₀ at a g rest e h q
+  stop-in (Found f) q p r =
+      going-refuse actionStep place bytes a₀ at a g rest e h f q p (step-stop a (place + at) rest f p (sized-stop (place + at) rest f (pieceAt (place + at) rest f) p r))
+
+  pub first-stop : (p : ℕ) → first.Stopped p ≡ firstOf (place + at) rest → stopped p ≡ walk actionStep place bytes a₀
+  unfolding firstOf
+  first-stop p r = stop-in (nextIn rest) refl p r
+
+  read-in : (v : Next) → v ≡ nextIn rest → (s : Piece) (n : ℕ) → first.Read s n ≡ firstIn (place + at) rest v → Going actionStep place bytes a₀ (at + n) (put a s)
+  read-in Stopped q s n r = let z : _≡_ {A = ℕ} 0 1 = cc in absurd (omega arith)
+  read-in (Found f) q s n r =
+      let z = sized-read (place + at) rest f (pieceAt (place + at) rest f) s n r in
+      subst (λ (k : ℕ). Going actionStep place bytes a₀ (at + k) (put a s)) (sym (z .1))
+      (going-more actionStep place bytes a₀ at a g rest e h f q (put a s) (step-read a (place + at) rest f s (z .0)))
+
+  pub first-read : (s : Piece) (n : ℕ) → first.Read s n ≡ firstOf (place + at) rest → Going actionStep place bytes a₀ (at + n) (put a s)
+  unfolding firstOf
+  first-read s n r = read-in (nextIn rest) refl s n r
 
 -- a gossip's turn
 module _ (s : Small) (v : Settled) (x : ℕ) (e : x ≡ min (s .count) 64) where

@@ -13,7 +13,7 @@ ghost use lib.ListN.{length};
 ghost use Rattle.fields.specs.Walk.{walk};
 ghost use Rattle.fields.specs.FieldLaws.{Lies};
 ghost use Rattle.actions.specs.declared.Piece.the-variants.{News};
-ghost use Rattle.actions.specs.Action.{pieceAt, asPiece, unmovedOf, turnOf, actionStep, Shows, Acts};
+ghost use Rattle.actions.specs.Action.{pieceAt, asPiece, firstOf, unmovedOf, turnOf, actionStep, Shows, Acts};
 
 // What the fields of an action say so far, without its gossip: whether a gossip was spoiled, and how many there are, 65 for more than 64.
 pub struct Small {
@@ -35,6 +35,12 @@ pub enum Piece {
 pub enum PieceRead {
     Stopped(usize),
     Read(Piece),
+}
+
+// Where reading stopped, or what the first field says and how many bytes it takes.
+pub enum FirstRead {
+    Stopped(usize),
+    Read(Piece, usize),
 }
 
 // What a field does: the fields so far, and a gossip for a place of the row. Place 64 takes what is not kept.
@@ -83,6 +89,21 @@ fn field(bytes: &[u8], place: usize, f: Field) -> PieceRead
             }
         }
         _ => PieceRead::Read(Piece::Unknown),
+    }
+}
+
+// The field that some bytes begin with.
+fn first_piece(bytes: &[u8], place: usize) -> FirstRead
+    requires { ⌜ place + length (now bytes) < 2 ^ 64 ⌝ }
+    ensures { λ r. ⌜ r ≡ firstOf place (now (bytes .entry)) ⌝ }
+{
+    let Next::Found(f) = fields::first(bytes) else {
+        return FirstRead::Stopped(place);
+    };
+    let size = f.size;
+    match field(bytes, place, f) {
+        PieceRead::Stopped(p) => FirstRead::Stopped(p),
+        PieceRead::Read(said) => FirstRead::Read(said, size),
     }
 }
 
@@ -175,18 +196,8 @@ pub fn merge(bytes: &[u8], place: usize, s: Small, mut row: [Gossip; 65]) -> Act
     let mut small = s;
     let mut at: usize = 0;
     while at < bytes.len() {
-        let rest = &bytes[at..];
-        let Next::Found(f) = fields::first(rest) else {
-            return Acted {
-                stopped: true,
-                place: place + at,
-                small,
-                row,
-            };
-        };
-        let size = f.size;
-        match field(rest, place + at, f) {
-            PieceRead::Stopped(p) => {
+        match first_piece(&bytes[at..], place + at) {
+            FirstRead::Stopped(p) => {
                 return Acted {
                     stopped: true,
                     place: p,
@@ -194,7 +205,7 @@ pub fn merge(bytes: &[u8], place: usize, s: Small, mut row: [Gossip; 65]) -> Act
                     row,
                 };
             }
-            PieceRead::Read(said) => {
+            FirstRead::Read(said, size) => {
                 let turn = turned(small, said);
                 let slot = turn.slot;
                 let next = turn.small;

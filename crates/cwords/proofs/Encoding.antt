@@ -5,7 +5,6 @@ use mathlib.Core.List.{List, [], _∷_}
 use Prim.Native.Nat.{ℕ, _<_}
 use native.Mathlib.Omega.{arith}
 use lib.ListN.{getD}
-use Rattle.model.specs.declared.State.{State}
 use Rattle.model.specs.Words.{partsOf}
 use Rattle.address.specs.Here.{Addr, here}
 use Rattle.types.specs.declared.Parts.{Parts}
@@ -23,7 +22,7 @@ use Rattle.departed.specs.declared.Departed.{Departed}
 use Rattle.node.specs.declared.Letter.{Letter}
 use Rattle.wait.specs.declared.WaitState.{WaitState}
 use Rattle.wait.specs.declared.Wait.{Wait}
-use Rattle.cwords.specs.Reading.{addressOf, addressIn, gossipOf, entryOf, memberOf, timerOf, departedOf, waitOf, optionalOf, optionalIn, actionAs, actionOf}
+use Rattle.cwords.specs.Reading.{addressOf, addressIn, gossipOf, entryOf, memberOf, timerOf, departedOf, waitOf, optionalIn, actionAs, actionOf}
 use Rattle.cwords.specs.Writing.{Narrow, firstWord, addressWords, partsWords, gossipWords, entryWords, stateWord, memberWords, timerWords, departedWords, waitStateWords, waitWords, optionalWords, actionThen, actionWords, letterWords, actionIn}
 use Rattle.cwords.specs.Back.{address-back, address-in-back, NarrowEvent, gossip-back, entry-back, member-back, timer-back, departed-back, NarrowState, wait-back, NarrowOption, optional-back, action-back}
 

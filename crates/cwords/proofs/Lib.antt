@@ -1,3 +1,4 @@
 -- What several proofs of this crate cite.
+pub mod Decoding
 pub mod Encoding
 pub mod Filling

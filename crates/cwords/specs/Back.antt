@@ -1,13 +1,13 @@
 -- What is written is read back.
 -- Assumes nothing.
-use mathlib.Core.Path.{_≡_, refl, ap, sym, _∙_}
+use mathlib.Core.Path.{_≡_, refl, ap, _∙_}
 use mathlib.Core.Bool.{Bool, true, false}
-use mathlib.Core.List.{List, [], _∷_, map}
-use Prim.Native.Nat.{ℕ, zero, suc, _+_, _*_, _/_, _%_, _<_}
+use mathlib.Core.List.{List, [], map}
+use Prim.Native.Nat.{ℕ, _+_, _*_, _/_, _%_, _<_}
 use native.Mathlib.Omega.{arith}
 use lib.Dec.{eqb, ltb}
 use lib.ListN.{getD}
-use borrow.Author.Tests.{lt-ltb, ne-eqb, eq-eqb}
+use borrow.Author.Tests.{lt-ltb, ne-eqb}
 use Rattle.model.specs.declared.State.{State}
 use Rattle.model.specs.declared.State.the-variants as state
 use Rattle.model.specs.declared.Settings.{Settings}
@@ -32,7 +32,7 @@ use Rattle.wait.specs.declared.WaitState.{WaitState}
 use Rattle.wait.specs.declared.WaitState.the-variants.{SendingPing, WaitingForPingAck, SendingPingReq, WaitingForPingReqAck, Declaring}
 use Rattle.wait.specs.declared.Wait.{Wait}
 use Rattle.cwords.specs.Reading.{nowhere, addressOf, addressIn, eventOf, gossipOf, entryOf, memberAs, memberOf, timerAs, timerOf, departedOf, stateOf, waitOf, optionalOf, optionalIn, actionAs, actionOf, cappedTo, firstWait, settingsOf, membersOf, disseminatorOf, Rows, rows, nodeOf}
-use Rattle.cwords.specs.Writing.{Narrow, firstWord, addressWords, gossipWords, entryWords, stateWord, memberWords, timerWords, departedWords, waitStateWords, waitWords, optionalThen, optionalWords, actionThen, actionWords, letterWords, actionIn, switchWord, headWords, rowsOf}
+use Rattle.cwords.specs.Writing.{Narrow, firstWord, addressWords, gossipWords, entryWords, stateWord, memberWords, timerWords, departedWords, waitStateWords, waitWords, optionalThen, optionalWords, actionThen, actionWords, switchWord, headWords, rowsOf}
 
 pub address-back : (a : Addr) → Narrow a → addressOf (firstWord a) (a .high) (a .low) ≡ a
 unfolding addressOf firstWord

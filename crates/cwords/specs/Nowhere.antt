@@ -1,19 +1,17 @@
 -- Words that no value has are valid nowhere, so that the rules refuse them: in a node by 2, in an input by 5, in settings by 1. And which code says that a call was kept.
 -- Assumes nothing.
-use mathlib.Core.Path.{_≡_, refl, ap, sym, _∙_}
-use mathlib.Core.Bool.{Bool, true, false, _&&_}
+use mathlib.Core.Path.{_≡_, refl, ap}
+use mathlib.Core.Bool.{false}
 use mathlib.Core.List.{List}
-use Prim.Native.Nat.{ℕ, _+_, _*_, _≤_, _<_}
+use Prim.Native.Nat.{ℕ, _≤_, _<_}
 use native.Mathlib.Omega.{arith}
 use lib.ListN.{getD}
-use lib.Dec.{eqb, ltb}
 use borrow.Author.Tests.{le-ltb, ne-eqb}
 use Rattle.model.specs.declared.Refusal.{Refusal}
 use Rattle.model.specs.declared.Refusal.the-variants as refusal
 use Rattle.model.specs.declared.Reply.{Reply}
 use Rattle.model.specs.declared.Reply.the-variants as reply
 use Rattle.model.specs.Answers.{numberOf}
-use Rattle.model.specs.Rows.{pick}
 use Rattle.model.specs.Words.{partsOf}
 use Rattle.model.specs.Sound.{inRange, validGossip}
 use Rattle.model.specs.Calls.{validAction, validState}
@@ -21,12 +19,10 @@ use Rattle.address.specs.Here.{Addr, here}
 use Rattle.address.specs.Families as families
 use Rattle.types.specs.declared.Event.{Event}
 use Rattle.types.specs.declared.Event.the-variants.{Joined}
-use Rattle.types.specs.declared.Action.{Action}
 use Rattle.types.specs.Views.{toGossip, toAction}
-use Rattle.wait.specs.declared.Wait.{Wait}
 use Rattle.wait.specs.Views.{toState}
-use Rattle.cwords.specs.Reading.{nowhere, addressOf, firstWait, settingsOf, eventOf, gossipOf, memberAs, memberOf, timerAs, timerOf, stateOf, waitOf, actionAs, actionOf}
-use Rattle.cwords.specs.Writing.{placeWord, codeOf}
+use Rattle.cwords.specs.Reading.{nowhere, addressOf, settingsOf, eventOf, gossipOf, memberAs, memberOf, timerAs, timerOf, waitOf, actionAs, actionOf}
+use Rattle.cwords.specs.Writing.{codeOf}
 
 pub nowhere-invalid : here .valid nowhere ≡ false
 unfolding families.inRange

@@ -1,8 +1,7 @@
 -- What rows of words say: the values of the rules that they are read as.
 -- Assumes nothing.
-use mathlib.Core.Path.{_≡_}
-use mathlib.Core.Bool.{Bool, true, false, _&&_}
-use mathlib.Core.List.{List, [], _∷_, map}
+use mathlib.Core.Bool.{Bool, _&&_}
+use mathlib.Core.List.{List, map}
 use Prim.Native.Nat.{ℕ, _/_, _%_}
 use lib.ListN.{getD}
 use lib.Dec.{eqb, ltb}

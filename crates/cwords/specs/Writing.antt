@@ -1,6 +1,5 @@
 -- The words of the values of the rules.
 -- Assumes nothing.
-use mathlib.Core.Path.{_≡_}
 use mathlib.Core.Bool.{Bool, true, false}
 use mathlib.Core.List.{List, [], _∷_, map}
 use Prim.Native.Nat.{ℕ, _+_, _*_, _<_}
@@ -19,7 +18,6 @@ use Rattle.model.specs.Words.{partsOf}
 use Rattle.model.specs.Words as W
 use Rattle.address.specs.Here.{Addr, here}
 use Rattle.types.specs.declared.Gossip.{Gossip}
-use Rattle.types.specs.declared.Event.{Event}
 use Rattle.types.specs.declared.Optional.{Optional}
 use Rattle.types.specs.declared.Optional.the-variants.{Absent, Given}
 use Rattle.types.specs.declared.Action.{Action}
@@ -34,7 +32,7 @@ use Rattle.node.specs.declared.Letter.{Letter}
 use Rattle.wait.specs.declared.WaitState.{WaitState}
 use Rattle.wait.specs.declared.WaitState.the-variants.{SendingPing, WaitingForPingAck, SendingPingReq, WaitingForPingReqAck, Declaring}
 use Rattle.wait.specs.declared.Wait.{Wait}
-use Rattle.cwords.specs.Reading.{addressOf, actionAs, Rows, rows}
+use Rattle.cwords.specs.Reading.{addressOf, actionAs, Rows}
 
 -- family and port are of 8 and of 16 bits
 abbrev pub Narrow : Addr → Type 0
@@ -74,12 +72,15 @@ unfoldable pub departedWords : Departed → List ℕ
 departedWords d = addressThen (d .addr) (d .number ∷ [])
 
 -- a state of the detector: its kind, its target and its number
+abbrev pub targetWords : ℕ → Addr → ℕ → ℕ → List ℕ
+targetWords k a n t = k ∷ addressThen a (n ∷ t ∷ [])
+
 abbrev pub waitStateWords : WaitState → ℕ → List ℕ
 waitStateWords SendingPing t = 0 ∷ 0 ∷ 0 ∷ 0 ∷ 0 ∷ t ∷ []
-waitStateWords (WaitingForPingAck a n) t = 1 ∷ addressThen a (n ∷ t ∷ [])
-waitStateWords (SendingPingReq a n) t = 2 ∷ addressThen a (n ∷ t ∷ [])
-waitStateWords (WaitingForPingReqAck a n) t = 3 ∷ addressThen a (n ∷ t ∷ [])
-waitStateWords (Declaring a n) t = 4 ∷ addressThen a (n ∷ t ∷ [])
+waitStateWords (WaitingForPingAck a n) t = targetWords 1 a n t
+waitStateWords (SendingPingReq a n) t = targetWords 2 a n t
+waitStateWords (WaitingForPingReqAck a n) t = targetWords 3 a n t
+waitStateWords (Declaring a n) t = targetWords 4 a n t
 
 unfoldable pub waitWords : Wait → List ℕ
 waitWords w = waitStateWords (w .state) (w .since)

@@ -131,42 +131,22 @@ pub fn event_of(kind: u64, from: Address, subject: Address, number: u64) -> Even
     ensures { λ r. ⌜ r ≡ eventOf kind from subject number ⌝ }
 {
     if kind == 1 {
-        return Event::Joined {
-            from,
-            subject,
-            number,
-        };
+        return Event::new_node_joined(from, subject, number);
     }
     if kind == 2 {
-        return Event::Recovered {
-            from,
-            subject,
-            number,
-        };
+        return Event::new_node_recovered(from, subject, number);
     }
     if kind == 3 {
-        return Event::Suspected {
-            from,
-            subject,
-            number,
-        };
+        return Event::new_node_suspected(from, subject, number);
     }
     if kind == 4 {
-        return Event::Deceased {
-            from,
-            subject,
-            number,
-        };
+        return Event::new_node_deceased(from, subject, number);
     }
     let free = address::same(subject, address::blank());
     if both(zeroed(kind, from, number), free) {
         return Event::Nothing;
     }
-    Event::Joined {
-        from: nowhere(),
-        subject,
-        number,
-    }
+    Event::new_node_joined(nowhere(), subject, number)
 }
 
 // A record: kind, from, subject, number.

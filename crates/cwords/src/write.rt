@@ -22,7 +22,7 @@ ghost use Prim.Native.Nat.{_≤_, _<_};
 ghost use lib.ListN.{length, take, drop};
 ghost use Rattle.model.specs.Answers.{numberOf};
 ghost use Rattle.cwords.specs.Reading.{addressIn, gossipOf, entryOf, memberOf, timerOf, departedOf, waitOf, optionalIn, actionOf};
-ghost use Rattle.cwords.specs.Writing.{Narrow, firstWord, addressWords, optionalWords, actionWords, gossipWords, entryWords, stateWord, memberWords, timerWords, departedWords, waitWords, letterWords, actionIn, codeOf, usedOf, fateOf, recordWord, placeWord};
+ghost use Rattle.cwords.specs.Writing.{Narrow, firstWord, addressWords, optionalWords, actionWords, gossipWords, entryWords, stateWord, memberWords, timerWords, departedWords, targetWords, waitWords, letterWords, actionIn, codeOf, usedOf, fateOf, recordWord, placeWord};
 
 fn wide_family(family: u8) -> u64
     ensures { λ r. ⌜ (r ≡ family) × (r < 256) ⌝ }
@@ -128,6 +128,20 @@ pub fn departed_words(d: Departed) -> [u64; 4]
     [first_word(a), a.high, a.low, d.number]
 }
 
+// A state of the detector that has a target, by its kind.
+fn target_words(kind: u64, target: Address, number: u64, since: u64) -> [u64; 6]
+    ensures { λ r. ⌜ (r ≡ targetWords kind target number since) × Narrow target ⌝ }
+{
+    [
+        kind,
+        first_word(target),
+        target.high,
+        target.low,
+        number,
+        since,
+    ]
+}
+
 pub fn wait_words(w: Wait) -> [u64; 6]
     ensures { λ r. ⌜ (r ≡ waitWords w) × (waitOf r ≡ w) ⌝ }
 {
@@ -135,46 +149,15 @@ pub fn wait_words(w: Wait) -> [u64; 6]
     let since = wide_tick(w.since);
     match state {
         WaitState::SendingPing => [0, 0, 0, 0, 0, since],
-        WaitState::WaitingForPingAck { target, number } => {
-            [
-                1,
-                first_word(target),
-                target.high,
-                target.low,
-                number,
-                since,
-            ]
-        }
-        WaitState::SendingPingReq { target, number } => {
-            [
-                2,
-                first_word(target),
-                target.high,
-                target.low,
-                number,
-                since,
-            ]
-        }
-        WaitState::WaitingForPingReqAck { target, number } => {
-            [
-                3,
-                first_word(target),
-                target.high,
-                target.low,
-                number,
-                since,
-            ]
-        }
-        WaitState::Declaring { target, number } => {
-            [
-                4,
-                first_word(target),
-                target.high,
-                target.low,
-                number,
-                since,
-            ]
-        }
+        WaitState::WaitingForPingAck { target, number } => target_words(1, target, number, since),
+        WaitState::SendingPingReq { target, number } => target_words(2, target, number, since),
+        WaitState::WaitingForPingReqAck { target, number } => target_words(
+            3,
+            target,
+            number,
+            since,
+        ),
+        WaitState::Declaring { target, number } => target_words(4, target, number, since),
     }
 }
 

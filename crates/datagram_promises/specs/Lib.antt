@@ -7,3 +7,8 @@ pub mod Malformed
 pub mod Rfc5952
 pub mod Texts
 pub mod Groups
+pub mod AnyField
+pub mod AnyLength
+pub mod Skipped
+pub mod Repeated
+pub mod Written

@@ -29,6 +29,7 @@ use Rattle.incoming.specs.Datagram.{Takes, readingOf, recordsOf}
 use Rattle.outgoing.specs.declared.Writing.{Writing}
 use Rattle.outgoing.specs.declared.Writing.the-variants as writing
 use Rattle.outgoing.specs.Outgoing.{Sends}
+use Rattle.outgoing.specs.Sending.{sends-bare}
 use Rattle.datagram.specs.Contracts as datagram
 use Rattle.datagram.specs.Laws.{writes-sent}
 use Rattle.cwords.specs.Reading.{Rows, settingsOf, gossipOf, actionOf, waitOf, nodeOf}
@@ -125,11 +126,18 @@ module _ (bytes action : List ℕ) (lent lent′ : List (List ℕ)) (t : Taken) 
   not-read x code g c = read-as (reading.Refused x) code action (0 ∷ []) g c refl refl
 
 -- and written
-pub sent-at : (w : List ℕ) (rs : List (List ℕ)) (out out′ : List ℕ) (r : Writing) (a : Action) (first : List Gossip) → a ≡ actionOf w → first ≡ padTo 64 noGossip (take 64 (map gossipOf rs))
-    → Sends a first (length rs) out r out′ → datagram.Writes (actionOf w) (map gossipOf rs) out r out′
-sent-at w rs out out′ r a first e f s =
-    let many : Sends a first (length (map gossipOf rs)) out r out′ = subst (λ (k : ℕ). Sends a first k out r out′) (sym (length-map rs gossipOf)) s in
-    writes-sent (actionOf w) (map gossipOf rs) out out′ r first f (subst (λ (z : Action). Sends z first (length (map gossipOf rs)) out r out′) e many)
+module _ (a : Action) (rs : List (List ℕ)) (out out′ : List ℕ) (r : Writing) where
+  pub sent-bare : length rs ≡ 0 → Sends a [] 0 out r out′ → datagram.Writes a (map gossipOf rs) out r out′
+  sent-bare z s =
+      let none : length (map gossipOf rs) ≡ 0 = length-map rs gossipOf ∙ z in
+      let row : List Gossip = padTo 64 noGossip (take 64 (map gossipOf rs)) in
+      writes-sent a (map gossipOf rs) out out′ r row refl (sends-bare a row (length (map gossipOf rs)) out r out′ none s)
+
+  pub sent-at : (first : List Gossip) → first ≡ padTo 64 noGossip (take 64 (map gossipOf rs)) → Sends a first (length rs) out r out′ → datagram.Writes a (map gossipOf rs) out r out′
+  sent-at first f s = writes-sent a (map gossipOf rs) out out′ r first f (subst (λ (k : ℕ). Sends a first k out r out′) (sym (length-map rs gossipOf)) s)
+
+pub sent-words : (w : List ℕ) (records : List Gossip) (out out′ : List ℕ) (r : Writing) (a : Action) → a ≡ actionOf w → datagram.Writes a records out r out′ → datagram.Writes (actionOf w) records out r out′
+sent-words w records out out′ r a e s = subst (λ (z : Action). datagram.Writes z records out r out′) e s
 
 module _ (a : Action) (records : List Gossip) (out out′ : List ℕ) (r : Writing) (s : datagram.Writes a records out r out′) where
   written-as : (v : Writing) (code : ℕ) (count : List ℕ) → r ≡ v → code ≡ writingCode v → count ≡ writingCount v → Writes a records out code out′ count

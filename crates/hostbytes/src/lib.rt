@@ -11,10 +11,12 @@ use salvage::Ends;
 use salvage::Said;
 use salvage::Word;
 use saving::Saving;
+use types::Action;
 ghost use mathlib.Core.Path.{_≡_};
 ghost use mathlib.Core.List.{map};
 ghost use Prim.Native.Nat.{_<_};
 ghost use Rattle.cwords.specs.Reading.{rows, settingsOf, gossipOf, actionOf, nodeOf};
+ghost use Rattle.datagram.specs.Contracts as datagram;
 ghost use Rattle.saving.specs.Views.{restoredOf};
 ghost use Rattle.hostbytes.specs.Promised.{Saves, Restores, saidWord, Salvages, placeWord, Reads, Writes};
 
@@ -177,6 +179,17 @@ pub extern "C" fn swim_words_read(
     }
 }
 
+// An action and its records, written. Without records no row is made of them.
+fn send_words(out: &mut [u8], action: Action, records: &[[u64; 8]]) -> Writing
+    ensures { λ r. ⌜ datagram.Writes action (map gossipOf (now (records .entry))) (now (out .entry)) r (now (out .exit)) ⌝ }
+{
+    if records.len() == 0 {
+        return outgoing::send_bare(out, action);
+    }
+    let first = read::records_of(records);
+    outgoing::send(out, action, first, records.len())
+}
+
 // An action and its records, written as a datagram: 4, 5, then 12 if the row is too short. `count` gets how many bytes were written.
 #[no_mangle]
 pub extern "C" fn swim_words_write(
@@ -187,8 +200,7 @@ pub extern "C" fn swim_words_write(
 ) -> u64
     ensures { λ r. ⌜ Writes (actionOf (now (action .entry))) (map gossipOf (now (records .entry))) (now (out .entry)) r (now (out .exit)) (now (count .exit)) ⌝ }
 {
-    let first = read::records_of(records);
-    let w = outgoing::send(out, read::action_of(*action), first, records.len());
+    let w = send_words(out, read::action_of(*action), records);
     match w {
         Writing::Whole(n) => {
             *count = [n as u64];

@@ -12,7 +12,7 @@ use Rattle.model.specs.declared.Kind.{Kind}
 use Rattle.model.specs.declared.Kind.the-variants as kind
 use Rattle.model.specs.declared.Refusal.{Refusal}
 use Rattle.model.specs.declared.Drew.the-variants.{Used, Refused}
-use Rattle.model.specs.Rows.{one}
+use Rattle.model.specs.Rows.{one, pick}
 use Rattle.model.specs.Answers.{Answer, done, refused, andThen, when, fullOf}
 use Rattle.address.specs.Here.{Addr, here}
 use Rattle.model.specs.Words as W
@@ -38,7 +38,7 @@ use Rattle.node.specs.declared.Node.{Node}
 use Rattle.node.specs.Views.{viewNode, packNode, withLists, withDisseminator}
 use Rattle.node.specs.Rows.{Ready}
 use Rattle.node.specs.Parts.{ready-is}
-use Rattle.message.specs.Views.{clearedFor, findsFull, fullFor, RoomFor, toldTo, saidBy}
+use Rattle.message.specs.Views.{clearedFor, leavesAll, goesTo, findsFull, fullFor, RoomFor, toldTo, saidBy}
 use Rattle.message.specs.Drawn.{list-leaves}
 
 -- what comes after an answer that was refused or not
@@ -46,6 +46,60 @@ when-then : (u : Bool) (full : Refusal) (x : M.Disseminator Addr) (rest : List �
 unfolding when
 when-then true full x rest f = refl
 when-then false full x rest f = refl
+
+no-truth : {A : Type 0} → _≡_ {A = Bool} false true → A
+no-truth e = let z : _≡_ {A = ℕ} 0 1 = ap one e in absurd (omega arith)
+
+-- a verdict that leaves all as it is
+acts-quiet : (v : handler.Verdict Addr) → leavesAll v ≡ true → (s : M.Node Addr) (ds : List ℕ) → handler.act here v s ds ≡ M.quiet s ds
+unfolding handler.act handler.listAfter handler.rowAfter handler.newsOf
+acts-quiet handler.Skip e s ds = refl
+acts-quiet handler.Unknown e s ds = refl
+acts-quiet handler.Equal e s ds = refl
+acts-quiet handler.Low e s ds = refl
+acts-quiet handler.AtEnd e s ds = no-truth e
+acts-quiet (handler.Refute n) e s ds = no-truth e
+acts-quiet (handler.Enter a n) e s ds = no-truth e
+acts-quiet (handler.Raise a n) e s ds = no-truth e
+acts-quiet (handler.Recover a n) e s ds = no-truth e
+acts-quiet (handler.Suspect a n) e s ds = no-truth e
+acts-quiet (handler.Bury a n) e s ds = no-truth e
+
+-- no old news: nothing is cleared
+pub cleared-none : (w : handler.News Addr) (h : Heap) → clearedFor 0 w h ≡ h
+cleared-none handler.Silent h = refl
+cleared-none (handler.Emits k e) h = refl
+
+-- a heap that news does not go to is as it came
+pub told-elsewhere : (k : Kind) (w : handler.News Addr) (h : Heap) → goesTo k w ≡ false → toldTo k w h ≡ h
+told-elsewhere k handler.Silent h f = refl
+told-elsewhere k (handler.Emits j e) h f = ap (λ (u : Bool). pick u (emitted h (record { event = e })) h) f
+
+-- news of the living goes nowhere else
+pub living-only : (w : handler.News Addr) → goesTo kind.Alive w ≡ true → goesTo kind.Deceased w ≡ false
+living-only handler.Silent t = refl
+living-only (handler.Emits kind.Alive e) t = refl
+living-only (handler.Emits kind.Deceased e) t = no-truth t
+
+-- and leaves the row of the departed
+row-kept : (v : handler.Verdict Addr) (own : Addr) (t : List (W.Member Addr)) (row : List (W.Departed Addr)) → goesTo kind.Alive (handler.newsOf here v own) ≡ true → handler.rowAfter here v t row ≡ row
+unfolding handler.rowAfter handler.newsOf
+row-kept handler.Skip own t row e = refl
+row-kept handler.Unknown own t row e = refl
+row-kept handler.Equal own t row e = refl
+row-kept handler.Low own t row e = refl
+row-kept handler.AtEnd own t row e = refl
+row-kept (handler.Refute n) own t row e = refl
+row-kept (handler.Enter a n) own t row e = refl
+row-kept (handler.Raise a n) own t row e = refl
+row-kept (handler.Recover a n) own t row e = refl
+row-kept (handler.Suspect a n) own t row e = refl
+row-kept (handler.Bury a n) own t row e = no-truth e
+
+pub row-stays : (n : Node) → Ready n → (v : handler.Verdict Addr) → goesTo kind.Alive (handler.newsOf here v (n .own)) ≡ true
+    → n .departed ≡ packDeparted (handler.rowAfter here v (viewMembers (n .members) .table) (departedView (n .departed)))
+unfolding packNode viewNode
+row-stays n r v e = sym (ap packDeparted (row-kept v (n .own) (viewMembers (n .members) .table) (departedView (n .departed)) e) ∙ ap (λ (y : Node). y .departed) (ready-is n r))
 
 -- there is room in the heap that news goes to
 pub room-for : (w : handler.News Addr) (k : Kind) (alive deceased : ℕ) → findsFull w alive deceased ≡ false → RoomFor k w (ofKind k alive deceased)
@@ -71,6 +125,21 @@ pub record Acted (x : Answer (M.Out Addr)) (w : handler.News Addr) (old : ℕ) (
   pub collected : out .collected ≡ old
   pub left : drop next draws ≡ rest
   pub within : next ≤ length draws
+
+-- a verdict that leaves all was carried out before it was begun
+pub act-leaves : (n : Node) → Ready n → (v : handler.Verdict Addr) (draws : List ℕ) (used : ℕ) → used ≤ length draws → leavesAll v ≡ true → Acted (handler.act here v (viewNode n) (drop used draws)) handler.Silent 0 n draws used
+unfolding M.quiet
+act-leaves n r v draws used h e =
+    record {
+      out = record { node = viewNode n; said = []; collected = 0 };
+      rest = drop used draws;
+      is = acts-quiet v e (viewNode n) (drop used draws);
+      node = sym (ready-is n r);
+      said = refl;
+      collected = refl;
+      left = refl;
+      within = h;
+    }
 
 module _ (n : Node) (r : Ready n) (v : handler.Verdict Addr) (draws : List ℕ) (used : ℕ) (h : used ≤ length draws) (k : Kept) (is : k ≡ listAfterOf (n .own) (n .members) v draws used) where
   abbrev x : Answer (list.Members Addr)

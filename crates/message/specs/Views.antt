@@ -75,6 +75,25 @@ abbrev pub clearedFor : ℕ → handler.News Addr → Heap → Heap
 clearedFor old handler.Silent h = h
 clearedFor old (handler.Emits k e) h = clearedBy old k (record { event = e }) h
 
+-- does a verdict leave list, departed and heaps as they are, and say nothing?
+abbrev pub leavesAll : handler.Verdict Addr → Bool
+leavesAll handler.Skip = true
+leavesAll handler.Unknown = true
+leavesAll handler.Equal = true
+leavesAll handler.Low = true
+leavesAll handler.AtEnd = false
+leavesAll (handler.Refute n) = false
+leavesAll (handler.Enter a n) = false
+leavesAll (handler.Raise a n) = false
+leavesAll (handler.Recover a n) = false
+leavesAll (handler.Suspect a n) = false
+leavesAll (handler.Bury a n) = false
+
+-- does news go to the heap of a kind?
+abbrev pub goesTo : Kind → handler.News Addr → Bool
+goesTo k handler.Silent = false
+goesTo k (handler.Emits j e) = sameKind j k
+
 -- is the heap full that news goes to, by how many entries both hold?
 abbrev pub findsFull : handler.News Addr → ℕ → ℕ → Bool
 findsFull handler.Silent alive deceased = false

@@ -33,8 +33,8 @@ ghost use Rattle.disseminate.specs.Views.{fromFound};
 ghost use Rattle.departed.specs.Views as gone;
 ghost use Rattle.node.specs.Views.{viewNode, withLists, withDisseminator};
 ghost use Rattle.node.specs.Rows.{Ready};
-ghost use Rattle.rules.specs.Views.{fromVerdict, toNews};
-ghost use Rattle.message.specs.Views.{recordsOf, Heeded, senderRule, verdictAt, deathsOf, deathFor, clearedFor, findsFull, RoomFor, toldTo, noted, fullFor, refusedHeard, heardOf};
+ghost use Rattle.rules.specs.Views.{fromVerdict, toVerdict, toNews};
+ghost use Rattle.message.specs.Views.{recordsOf, Heeded, senderRule, verdictAt, deathsOf, deathFor, clearedFor, leavesAll, goesTo, findsFull, RoomFor, toldTo, noted, fullFor, refusedHeard, heardOf};
 
 // What a message brings: its records, and the sender if it is to come in.
 pub struct Lent {
@@ -117,6 +117,25 @@ fn verdict_at(
     }
 }
 
+// Does a verdict leave list, departed and heaps as they are, and say nothing? Such a record is passed over, so that none of them is copied for old news.
+fn leaves_all(verdict: Verdict) -> bool
+    ensures { λ r. ⌜ r ≡ leavesAll (toVerdict verdict) ⌝ }
+{
+    match verdict {
+        Verdict::Skip => true,
+        Verdict::Unknown => true,
+        Verdict::Equal => true,
+        Verdict::Low => true,
+        Verdict::AtEnd => false,
+        Verdict::Refute(_) => false,
+        Verdict::Enter { addr: _, number: _ } => false,
+        Verdict::Raise { addr: _, number: _ } => false,
+        Verdict::Recover { addr: _, number: _ } => false,
+        Verdict::Suspect { addr: _, number: _ } => false,
+        Verdict::Bury { addr: _, number: _ } => false,
+    }
+}
+
 // The alive heap without the events that news outdates, `old` of them.
 fn clear(alive: Heap, old: usize, news: News) -> Heap
     requires { ⌜ Packed alive ⌝ }
@@ -136,6 +155,16 @@ fn finds_full(news: News, alive: usize, deceased: usize) -> bool
         News::Silent => false,
         News::Emits { kind, event: _ } => Heap::CAPACITY
             <= disseminate::of_kind(kind, alive, deceased),
+    }
+}
+
+// Does news go to the heap of a kind?
+fn goes_to(news: News, kind: Kind) -> bool
+    ensures { λ r. ⌜ r ≡ goesTo kind (toNews news) ⌝ }
+{
+    match news {
+        News::Silent => false,
+        News::Emits { kind: to, event: _ } => disseminate::same_kind(to, kind),
     }
 }
 
@@ -194,9 +223,19 @@ fn note(report: Report, news: News, old: usize) -> Report
     }
 }
 
-// A rule was refused.
-fn refused(node: Node, refusal: Refusal, at: Cause) -> Heard
-    ensures { λ r. ⌜ r ≡ refusedHeard node refusal at ⌝ }
+// Whose turn it is: a record's, or behind them the sender's.
+fn cause_at(i: usize, given: usize) -> Cause
+    ensures { λ r. ⌜ r ≡ handler.causeAt i given ⌝ }
+{
+    if i < given {
+        return Cause::Record(i);
+    }
+    Cause::Sender
+}
+
+// A rule was refused, as it was the turn of a record or, behind them, of the sender.
+fn refused(node: Node, refusal: Refusal, i: usize, given: usize) -> Heard
+    ensures { λ r. ⌜ r ≡ refusedHeard node refusal (handler.causeAt i given) ⌝ }
 {
     Heard {
         node,
@@ -204,7 +243,7 @@ fn refused(node: Node, refusal: Refusal, at: Cause) -> Heard
         reported: 0,
         collected: 0,
         drew: Drew::Refused(refusal),
-        at,
+        at: cause_at(i, given),
     }
 }
 
@@ -213,11 +252,12 @@ fn all_heard(
     node: Node,
     members: Members,
     departed: DepartedRow,
-    disseminator: Disseminator,
+    alive: Heap,
+    deceased: Heap,
     report: Report,
     used: usize,
 ) -> Heard
-    ensures { λ r. ⌜ r ≡ record { node = withDisseminator (withLists node members departed) disseminator; events = report .events; reported = report .count; collected = report .collected; drew = Used used; at = Sender } ⌝ }
+    ensures { λ r. ⌜ r ≡ record { node = withDisseminator (withLists node members departed) (record { alive = alive; deceased = deceased }); events = report .events; reported = report .count; collected = report .collected; drew = Used used; at = Sender } ⌝ }
 {
     let settings = node.settings;
     let own = node.own;
@@ -228,7 +268,7 @@ fn all_heard(
             settings,
             own,
             members,
-            disseminator,
+            disseminator: Disseminator { alive, deceased },
             timers,
             departed,
         },
@@ -238,16 +278,6 @@ fn all_heard(
         drew: Drew::Used(used),
         at: Cause::Sender,
     }
-}
-
-// Whose turn it is: a record's, or behind them the sender's.
-fn cause_at(i: usize, given: usize) -> Cause
-    ensures { λ r. ⌜ r ≡ handler.causeAt i given ⌝ }
-{
-    if i < given {
-        return Cause::Record(i);
-    }
-    Cause::Sender
 }
 
 // The refusal of news that finds its heap full: 9 of the alive heap, 13 of the deceased.
@@ -263,12 +293,11 @@ fn full_heap(news: News) -> Refusal
     }
 }
 
-// The records in their order and then the sender: each is judged, the list changes, and the news is pushed and reported.
+// The records in their order and then the sender: each is judged, the list changes, and the news is pushed and reported. A heap and the departed are handed on only where they change, since each is copied.
 pub fn handle_gossip(node: Node, lent: Lent, draws: &[u64]) -> Heard
     requires { ⌜ Ready node × Heeded (lent .rows) (lent .given) × (calls.validOption here (toOptional (lent .sender)) ≡ true) ⌝ }
     ensures { λ r. ⌜ r ≡ heardOf node (now (draws .entry)) (handler.stopsAt here (recordsOf (lent .rows) (lent .given)) (viewNode node) (now (draws .entry))) (M.andMore (handler.gossip here (recordsOf (lent .rows) (lent .given)) (viewNode node) (now (draws .entry))) (senderRule (toOptional (lent .sender)))) ⌝ }
 {
-    let own = node.own;
     let on = node.settings.remember;
     let mut members = node.members;
     let mut departed = node.departed;
@@ -278,27 +307,34 @@ pub fn handle_gossip(node: Node, lent: Lent, draws: &[u64]) -> Heard
     let mut used = 0;
     let mut i = 0;
     while i <= lent.given {
-        let verdict = verdict_at(members, own, on, departed, deceased, lent, i);
-        let kept = rules::list_after(members, own, verdict, draws, used);
+        let verdict = verdict_at(members, node.own, on, departed, deceased, lent, i);
+        if leaves_all(verdict) {
+            i += 1;
+            continue;
+        }
+        let kept = rules::list_after(members, node.own, verdict, draws, used);
         let drew = kept.drew;
         match drew {
             Drew::Used(more) => used += more,
-            Drew::Refused(refusal) => {
-                return refused(node, refusal, cause_at(i, lent.given));
-            }
+            Drew::Refused(refusal) => return refused(node, refusal, i, lent.given),
         }
-        let news = rules::news_of(verdict, own);
+        let news = rules::news_of(verdict, node.own);
         let old = rules::old_news(node.settings.collect, alive, news);
         if finds_full(news, alive.len - old, deceased.len) {
-            return refused(node, full_heap(news), cause_at(i, lent.given));
+            return refused(node, full_heap(news), i, lent.given);
         }
-        departed = rules::row_after(departed, members, verdict);
+        if old > 0 {
+            alive = clear(alive, old, news);
+        }
+        if goes_to(news, Kind::Alive) {
+            alive = tell(alive, Kind::Alive, news);
+        } else {
+            departed = rules::row_after(departed, members, verdict);
+            deceased = tell(deceased, Kind::Deceased, news);
+        }
         members = kept.members;
-        alive = tell(clear(alive, old, news), Kind::Alive, news);
-        deceased = tell(deceased, Kind::Deceased, news);
         report = note(report, news, old);
         i += 1;
     }
-    let disseminator = Disseminator { alive, deceased };
-    all_heard(node, members, departed, disseminator, report, used)
+    all_heard(node, members, departed, alive, deceased, report, used)
 }

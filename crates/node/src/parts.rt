@@ -7,15 +7,23 @@ use member::Members;
 use model::State;
 use model::both;
 use timers::Timers;
-use types::Event;
 use types::Gossip;
 ghost use mathlib.Core.Path.{_≡_};
+ghost use mathlib.Core.Bool.{_&&_};
 ghost use Prim.Native.Nat.{_≤_};
+ghost use lib.Dec.{eqb};
 ghost use Rattle.address.specs.Here.{here};
 ghost use Rattle.model.specs.Node as M;
 ghost use Rattle.disseminate.specs.Fit.{most-chosen};
 ghost use Rattle.node.specs.Views.{viewNode, packNode, withMembers, withTimers, spreadOf};
 ghost use Rattle.node.specs.Rows.{Ready};
+
+// Do both heaps hold nothing?
+fn none_held(alive: usize, deceased: usize) -> bool
+    ensures { λ r. ⌜ r ≡ (eqb alive 0 && eqb deceased 0) ⌝ }
+{
+    both(alive == 0, deceased == 0)
+}
 
 impl Node {
     pub fn with_members(self, members: Members) -> Node
@@ -77,14 +85,8 @@ impl Node {
         ensures { λ r. ⌜ r ≡ spreadOf (M.spread here (viewNode self)) ⌝ }
         ensures within { λ r. ⌜ r .count ≤ most-chosen ⌝ }
     {
-        let quiet = both(
-            self.disseminator.alive.len == 0,
-            self.disseminator.deceased.len == 0,
-        );
-        if quiet {
-            let nothing = Gossip {
-                event: Event::Nothing,
-            };
+        if none_held(self.disseminator.alive.len, self.disseminator.deceased.len) {
+            let nothing = Gossip::none();
             return Spread {
                 node: self,
                 rows: [nothing; 64],
@@ -99,8 +101,8 @@ impl Node {
         let alive = self.disseminator.alive;
         let deceased = self.disseminator.deceased;
         let choice = disseminate::get_gossip(alive, deceased, settings, members.len);
-        let living = choice.alive;
-        let dead = choice.deceased;
+        let alive = choice.alive;
+        let deceased = choice.deceased;
         let rows = choice.chosen.rows;
         // Written out: handed over, the heaps would be copied once more.
         Spread {
@@ -108,10 +110,7 @@ impl Node {
                 settings,
                 own,
                 members,
-                disseminator: Disseminator {
-                    alive: living,
-                    deceased: dead,
-                },
+                disseminator: Disseminator { alive, deceased },
                 timers,
                 departed,
             },

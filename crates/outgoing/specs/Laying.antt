@@ -6,10 +6,10 @@ use mathlib.Core.List.{List, [], _∷_, _++_, append-assoc, append-nil}
 use Prim.Native.Nat.{ℕ, suc, _+_, _*_, _^_, _≤_, _<_}
 use native.Mathlib.Omega.{arith}
 use native.Mathlib.Numerals.{add-one}
-use lib.Dec.{lit≤}
 use lib.ListN.{length, take, drop, getD, length-append}
-use lib.Seq.{take-suc, split-at, take-take, getD-take, length-take-le}
-use borrow.Author.Tests.{lt-ltb, le-ltb}
+use lib.Seq.{take-suc, split-at, take-take, getD-take, length-take-le, sets, length-sets}
+use lib.Dec.{ltb, lit≤}
+use borrow.Author.Tests.{lt-ltb, le-ltb, ltb-false}
 use Rattle.model.specs.Size.{varintLength}
 use Rattle.types.specs.declared.Action.{Action}
 use Rattle.types.specs.declared.Action.the-variants.{Ping, PingReq, Ack}
@@ -21,16 +21,17 @@ use Rattle.address.specs.Here.{Addr, here, here-text as text, here-text-long}
 use Rattle.types.specs.Wire.{varint, varint-one, varint-length, tag, delimited, string}
 use Rattle.varint.specs.Laid.{Laid, Room, laid-none, laid-then, laid-as, laid-first, room-first, room-then}
 use Rattle.iptext.specs.Texts.{text-long}
-use Rattle.fields.specs.FieldLaws.{delimited-long}
 use Rattle.events.specs.Back.{string-some}
 use Rattle.gossips.specs.Gossip.{gossipBytesOf}
 use Rattle.incoming.specs.Encode.{otherBytes, gossipFields, fieldsOf, encode}
 use Rattle.incoming.specs.Back.{short}
 use Rattle.outgoing.specs.declared.Opened.{Opened}
+use Rattle.model.specs.declared.Refusal.{Refusal}
 use Rattle.model.specs.declared.Refusal.the-variants.{NoRoom}
+use Rattle.model.specs.Calls.{firstOf}
 use Rattle.outgoing.specs.declared.Writing.{Writing}
 use Rattle.outgoing.specs.declared.Writing.the-variants.{Whole, Refused}
-use Rattle.outgoing.specs.Outgoing.{openOf, writtenOf, rowAfter}
+use Rattle.outgoing.specs.Outgoing.{openOf, addressesOf, headOf, headedOf, writtenOf, rowAfter}
 
 -- texts
 pub text-counts : (n : ℕ) (a : Addr) (r : ℕ) → n ≤ 15 → r ≡ here .chars a → r < 128 → 2 + r ≡ length (string n (text a))
@@ -138,38 +139,112 @@ module _ {out : List ℕ} {at : ℕ} (g : Gossip) (r : ℕ) (e : r ≡ length (g
           laid-as (tag 3 2 ++ (varint r ++ gossipBytesOf g)) (delimited 3 (gossipBytesOf g))
           (ap (λ (n : ℕ). tag 3 2 ++ (varint n ++ gossipBytesOf g)) e) (laid-then f₁ (laid-then f₂ f₃))
 
--- the three pieces of an action
-module _ {out : List ℕ} {at : ℕ} (from : Addr) (o : Optional) (gs : List Gossip) (h : Room out at (fieldsOf from o gs)) where
+-- the two addresses of an action
+module _ {out : List ℕ} {at : ℕ} (from : Addr) (o : Optional) (h : Room out at (addressesOf from o)) where
   pub from-room : Room out at (string 1 (text from))
-  unfolding fieldsOf
-  from-room = room-first (string 1 (text from)) (otherBytes o ++ gossipFields gs) h
+  unfolding addressesOf
+  from-room = room-first (string 1 (text from)) (otherBytes o) h
 
   module _ {out₁ : List ℕ} {n₁ : ℕ} (f₁ : Laid out at (string 1 (text from)) out₁ n₁) where
-    after-from : Room out₁ n₁ (otherBytes o ++ gossipFields gs)
-    unfolding fieldsOf
-    after-from = room-then (string 1 (text from)) (otherBytes o ++ gossipFields gs) f₁ h
-
     pub second-room : Room out₁ n₁ (otherBytes o)
-    second-room = room-first (otherBytes o) (gossipFields gs) after-from
+    unfolding addressesOf
+    second-room = room-then (string 1 (text from)) (otherBytes o) f₁ h
 
-    module _ {out₂ : List ℕ} {n₂ : ℕ} (f₂ : Laid out₁ n₁ (otherBytes o) out₂ n₂) where
-      pub third-room : Room out₂ n₂ (gossipFields gs)
-      third-room = room-then (otherBytes o) (gossipFields gs) f₂ after-from
+    pub addresses-laid : {out₂ : List ℕ} {n₂ : ℕ} → Laid out₁ n₁ (otherBytes o) out₂ n₂ → Laid out at (addressesOf from o) out₂ n₂
+    unfolding addressesOf
+    addresses-laid f₂ = laid-then f₁ f₂
 
-      pub fields-laid : {out₃ : List ℕ} {n₃ : ℕ} → Laid out₂ n₂ (gossipFields gs) out₃ n₃ → Laid out at (fieldsOf from o gs) out₃ n₃
-      unfolding fieldsOf
-      fields-laid f₃ = laid-then f₁ (laid-then f₂ f₃)
+pub addresses-count : (from : Addr) (o : Optional) (x y rest : ℕ) → x ≡ here .chars from → x < 128 → y ≡ length (otherBytes o)
+    → 2 + x + y + rest ≡ length (addressesOf from o) + rest
+unfolding addressesOf
+addresses-count from o x y rest a l b = omega (arith, text-counts 1 from x (lit≤ tt) a l, length-append (string 1 (text from)) (otherBytes o))
 
-pub fields-count : (from : Addr) (o : Optional) (gs : List Gossip) (x y z : ℕ) → x ≡ here .chars from → x < 128 → y ≡ length (otherBytes o) → z ≡ length (gossipFields gs)
-    → 2 + x + y + z ≡ length (fieldsOf from o gs)
-unfolding fieldsOf
-fields-count from o gs x y z a l b c =
-    omega (
-      arith,
-      text-counts 1 from x (lit≤ tt) a l,
-      length-append (string 1 (text from)) (otherBytes o ++ gossipFields gs),
-      length-append (otherBytes o) (gossipFields gs),
-    )
+-- what stands before the records
+open-kind : (a : Action) → openOf a .kind ≤ 3
+unfolding openOf
+open-kind (Ping f o) = lit≤ tt
+open-kind (PingReq f s) = lit≤ tt
+open-kind (Ack f o) = lit≤ tt
+
+module _ (a : Action) (rest : ℕ) (p : Opened) (e : p ≡ openOf a) where
+  abbrev both : List ℕ
+  both = addressesOf (p .from) (p .other)
+
+  heads : headOf a rest ≡ tag (p .kind) 2 ++ (varint (length both + rest) ++ both)
+  unfolding headOf
+  heads =
+      ap (λ (q : Opened). tag (q .kind) 2 ++ (varint (length (addressesOf (q .from) (q .other)) + rest) ++ addressesOf (q .from) (q .other)))
+      (sym e)
+
+  pub kind-small : p .kind ≤ 3
+  kind-small = subst (λ (q : Opened). q .kind ≤ 3) (sym e) (open-kind a)
+
+  module _ (n v : ℕ) (c : n ≡ length both + rest) (l : n < 2 ^ 64) (w : v ≡ varintLength n) where
+    total : 1 + v + n ≡ length (headOf a rest) + rest
+    total =
+        let key : p .kind * 8 + 2 < 128 = omega (arith, kind-small) in
+        let k : length (varint (length both + rest)) ≡ v = ap (λ (x : ℕ). length (varint x)) (sym c) ∙ varint-length n l ∙ sym w in
+        omega (
+          arith,
+          ap (λ (x : List ℕ). length x) heads,
+          length-append (tag (p .kind) 2) (varint (length both + rest) ++ both),
+          length-append (varint (length both + rest)) both,
+          varint-one (p .kind * 8 + 2) key,
+        )
+
+    abbrev by : Bool → Writing
+    by u = elim u [ true ↦ Refused NoRoom | false ↦ Whole (length (headOf a rest)) ]
+
+    -- the answer is known, and so is the row
+    answered : (row : List ℕ) (r : Writing) (row′ : List ℕ) → r ≡ headedOf (headOf a rest) rest row → row′ ≡ rowAfter r (headOf a rest) row
+        → (r ≡ headedOf (headOf a rest) rest row) × (row′ ≡ rowAfter (headedOf (headOf a rest) rest row) (headOf a rest) row)
+    answered row r row′ q k = (q, k ∙ ap (λ (x : Writing). rowAfter x (headOf a rest) row) q)
+
+    pub too-long : (row : List ℕ) → length row < 1 + v + n
+        → (Refused NoRoom ≡ headedOf (headOf a rest) rest row) × (row ≡ rowAfter (headedOf (headOf a rest) rest row) (headOf a rest) row)
+    unfolding headedOf rowAfter
+    too-long row h = answered row (Refused NoRoom) row (ap by (sym (lt-ltb (length row) (length (headOf a rest) + rest) (omega (arith, total))))) refl
+
+    module _ (row : List ℕ) (h : 1 + v + n ≤ length row) where
+      all : Room row 0 (tag (p .kind) 2 ++ (varint n ++ both))
+      all =
+          subst (λ (x : ℕ). Room row 0 (tag (p .kind) 2 ++ (varint x ++ both))) (sym c)
+          (subst (Room row 0) heads (record { fits = omega (arith, total) }))
+
+      pub room-key : Room row 0 (tag (p .kind) 2)
+      room-key = room-first (tag (p .kind) 2) (varint n ++ both) all
+
+      module _ {row₁ : List ℕ} {n₁ : ℕ} (f₁ : Laid row 0 (tag (p .kind) 2) row₁ n₁) where
+        behind-key : Room row₁ n₁ (varint n ++ both)
+        behind-key = room-then (tag (p .kind) 2) (varint n ++ both) f₁ all
+
+        pub room-count : Room row₁ n₁ (varint n)
+        room-count = room-first (varint n) both behind-key
+
+        module _ {row₂ : List ℕ} {n₂ : ℕ} (f₂ : Laid row₁ n₁ (varint n) row₂ n₂) where
+          pub room-addresses : Room row₂ n₂ both
+          room-addresses = room-then (varint n) both f₂ behind-key
+
+          pub headed : {row₃ : List ℕ} {n₃ : ℕ} → Laid row₂ n₂ both row₃ n₃
+              → (Whole n₃ ≡ headedOf (headOf a rest) rest row) × (row₃ ≡ rowAfter (headedOf (headOf a rest) rest row) (headOf a rest) row)
+          unfolding headedOf rowAfter
+          headed {row₃} {n₃} f₃ =
+              let k : length (headOf a rest) + rest ≤ length row = omega (arith, total) in
+              let b : Laid row 0 (headOf a rest) row₃ n₃ =
+              laid-as (tag (p .kind) 2 ++ (varint n ++ both)) (headOf a rest)
+              (ap (λ (x : ℕ). tag (p .kind) 2 ++ (varint x ++ both)) c ∙ sym heads) (laid-then f₁ (laid-then f₂ f₃)) in
+              let z : n₃ ≡ length (headOf a rest) = omega (arith, b .ends) in
+              answered row (Whole n₃) row₃ (ap Whole z ∙ ap by (sym (le-ltb (length row) (length (headOf a rest) + rest) k)))
+              (laid-first (omega (arith, k)) b ∙ ap (λ (x : ℕ). headOf a rest ++ drop x row) (sym z))
+
+-- a refusal, and the place behind what was written
+NothingWritten : Writing → Type 0
+NothingWritten (Whole n) = ⊥
+NothingWritten (Refused x) = Unit {0}
+
+placeOf : Writing → ℕ
+placeOf (Whole n) = n
+placeOf (Refused x) = 0
 
 -- the whole
 open-encode : (a : Action) (gs : List Gossip) → encode a gs ≡ delimited (openOf a .kind) (fieldsOf (openOf a .from) (openOf a .other) gs)
@@ -178,71 +253,120 @@ open-encode (Ping f o) gs = refl
 open-encode (PingReq f s) gs = refl
 open-encode (Ack f o) gs = refl
 
-open-kind : (a : Action) → openOf a .kind ≤ 3
-unfolding openOf
-open-kind (Ping f o) = lit≤ tt
-open-kind (PingReq f s) = lit≤ tt
-open-kind (Ack f o) = lit≤ tt
+module _ (a : Action) (gs : List Gossip) where
+  abbrev rest : ℕ
+  rest = length (gossipFields gs)
 
-module _ (a : Action) (gs : List Gossip) (p : Opened) (e : p ≡ openOf a) where
-  abbrev inside : List ℕ
-  inside = fieldsOf (p .from) (p .other) gs
+  abbrev addresses : List ℕ
+  addresses = addressesOf (openOf a .from) (openOf a .other)
 
-  encodes : encode a gs ≡ delimited (p .kind) inside
-  encodes = open-encode a gs ∙ ap (λ (q : Opened). delimited (q .kind) (fieldsOf (q .from) (q .other) gs)) (sym e)
+  fields-split : fieldsOf (openOf a .from) (openOf a .other) gs ≡ addresses ++ gossipFields gs
+  unfolding fieldsOf addressesOf
+  fields-split = sym (append-assoc (string 1 (text (openOf a .from))) (otherBytes (openOf a .other)) (gossipFields gs))
 
-  pub kind-small : p .kind ≤ 3
-  kind-small = subst (λ (q : Opened). q .kind ≤ 3) (sym e) (open-kind a)
+  -- a datagram is its head and its records
+  pub head-then : encode a gs ≡ headOf a rest ++ gossipFields gs
+  unfolding headOf
+  head-then =
+      open-encode a gs
+      ∙ ap (λ (l : List ℕ). delimited (openOf a .kind) l) fields-split
+      ∙ ap (λ (x : ℕ). tag (openOf a .kind) 2 ++ (varint x ++ (addresses ++ gossipFields gs))) (length-append addresses (gossipFields gs))
+      ∙ ap (λ (l : List ℕ). tag (openOf a .kind) 2 ++ l) (sym (append-assoc (varint (length addresses + rest)) addresses (gossipFields gs)))
+      ∙ sym (append-assoc (tag (openOf a .kind) 2) (varint (length addresses + rest) ++ addresses) (gossipFields gs))
 
-  module _ (n v : ℕ) (c : n ≡ length inside) (l : n < 2 ^ 64) (w : v ≡ varintLength n) where
-    total : 1 + v + n ≡ length (encode a gs)
-    total =
-        let key : p .kind * 8 + 2 < 128 = omega (arith, kind-small) in
-        let k : length (varint (length inside)) ≡ v = ap (λ (x : ℕ). length (varint x)) (sym c) ∙ varint-length n l ∙ sym w in
-        omega (arith, ap (λ (x : List ℕ). length x) encodes, delimited-long (p .kind) inside, varint-one (p .kind * 8 + 2) key)
+  long : length (encode a gs) ≡ length (headOf a rest) + rest
+  long = ap (λ (l : List ℕ). length l) head-then ∙ length-append (headOf a rest) (gossipFields gs)
 
-    abbrev by : Bool → Writing
-    by u = elim u [ true ↦ Refused NoRoom | false ↦ Whole (length (encode a gs)) ]
+  -- where no head is written nothing is; behind a head there is room for the records, and with them the datagram stands
+  module _ (row : List ℕ) where
+    abbrev cut : Bool
+    cut = ltb (length row) (length (headOf a rest) + rest)
 
-    -- the answer is known, and so is the row
-    answered : (row : List ℕ) (r : Writing) (row′ : List ℕ) → r ≡ writtenOf (encode a gs) row → row′ ≡ rowAfter r (encode a gs) row
-        → (r ≡ writtenOf (encode a gs) row) × (row′ ≡ rowAfter (writtenOf (encode a gs) row) (encode a gs) row)
-    answered row r row′ q k = (q, k ∙ ap (λ (x : Writing). rowAfter x (encode a gs) row) q)
+    abbrev byHead : Bool → Writing
+    byHead u = elim u [ true ↦ Refused NoRoom | false ↦ Whole (length (headOf a rest)) ]
 
-    pub too-long : (row : List ℕ) → length row < 1 + v + n → (Refused NoRoom ≡ writtenOf (encode a gs) row) × (row ≡ rowAfter (writtenOf (encode a gs) row) (encode a gs) row)
-    unfolding writtenOf rowAfter
-    too-long row h = answered row (Refused NoRoom) row (ap by (sym (lt-ltb (length row) (length (encode a gs)) (omega (arith, total))))) refl
+    abbrev byAll : Bool → Writing
+    byAll u = elim u [ true ↦ Refused NoRoom | false ↦ Whole (length (encode a gs)) ]
 
-    module _ (row : List ℕ) (h : 1 + v + n ≤ length row) where
-      all : Room row 0 (tag (p .kind) 2 ++ (varint n ++ inside))
-      all =
-          subst (λ (x : ℕ). Room row 0 (tag (p .kind) 2 ++ (varint x ++ inside))) (sym c)
-          (subst (Room row 0) encodes (record { fits = omega (arith, total) }))
+    head-by : (u : Bool) → cut ≡ u → headedOf (headOf a rest) rest row ≡ byHead u
+    unfolding headedOf
+    head-by u t = ap byHead t
 
-      pub room-key : Room row 0 (tag (p .kind) 2)
-      room-key = room-first (tag (p .kind) 2) (varint n ++ inside) all
+    all-by : (u : Bool) → cut ≡ u → writtenOf (encode a gs) row ≡ byAll u
+    unfolding writtenOf
+    all-by u t = ap (λ (n : ℕ). byAll (ltb (length row) n)) long ∙ ap byAll t
 
-      module _ {row₁ : List ℕ} {n₁ : ℕ} (f₁ : Laid row 0 (tag (p .kind) 2) row₁ n₁) where
-        rest : Room row₁ n₁ (varint n ++ inside)
-        rest = room-then (tag (p .kind) 2) (varint n ++ inside) f₁ all
+    module _ (m : ℕ) (g : m ≡ rest) (r : Writing) (row′ : List ℕ)
+        (w : (r ≡ headedOf (headOf a m) m row) × (row′ ≡ rowAfter (headedOf (headOf a m) m row) (headOf a m) row)) where
+      q : r ≡ headedOf (headOf a rest) rest row
+      q = w .0 ∙ ap (λ (x : ℕ). headedOf (headOf a x) x row) g
 
-        pub room-count : Room row₁ n₁ (varint n)
-        room-count = room-first (varint n) inside rest
+      k : row′ ≡ rowAfter (headedOf (headOf a rest) rest row) (headOf a rest) row
+      k = w .1 ∙ ap (λ (x : ℕ). rowAfter (headedOf (headOf a x) x row) (headOf a x) row) g
 
-        module _ {row₂ : List ℕ} {n₂ : ℕ} (f₂ : Laid row₁ n₁ (varint n) row₂ n₂) where
-          pub room-fields : Room row₂ n₂ inside
-          room-fields = room-then (varint n) inside f₂ rest
+      pub head-refused : (x : Refusal) → r ≡ Refused x
+          → (Refused x ≡ writtenOf (encode a gs) row) × (row′ ≡ rowAfter (writtenOf (encode a gs) row) (encode a gs) row)
+      unfolding rowAfter NothingWritten
+      head-refused x e =
+          (elim cut as (λ u. cut ≡ u → (Refused x ≡ writtenOf (encode a gs) row) × (row′ ≡ rowAfter (writtenOf (encode a gs) row) (encode a gs) row)) [
+            | true ↦ λ t. (
+              sym e ∙ q ∙ head-by true t ∙ sym (all-by true t),
+              k
+                  ∙ ap (λ (w : Writing). rowAfter w (headOf a rest) row) (head-by true t)
+                  ∙ sym (ap (λ (w : Writing). rowAfter w (encode a gs) row) (all-by true t)),
+            )
+            | false ↦ λ t. absurd (subst NothingWritten (sym e ∙ q ∙ head-by false t) tt)
+          ]) refl
 
-          pub written : {row₃ : List ℕ} {n₃ : ℕ} → Laid row₂ n₂ inside row₃ n₃ → (Whole n₃ ≡ writtenOf (encode a gs) row) × (row₃ ≡ rowAfter (writtenOf (encode a gs) row) (encode a gs) row)
-          unfolding writtenOf rowAfter
-          written {row₃} {n₃} f₃ =
-              let k : length (encode a gs) ≤ length row = omega (arith, total) in
-              let b : Laid row 0 (encode a gs) row₃ n₃ =
-              laid-as (tag (p .kind) 2 ++ (varint n ++ inside)) (encode a gs)
-              (ap (λ (x : ℕ). tag (p .kind) 2 ++ (varint x ++ inside)) c ∙ sym encodes) (laid-then f₁ (laid-then f₂ f₃)) in
-              let z : n₃ ≡ length (encode a gs) = omega (arith, b .ends) in
-              answered row (Whole n₃) row₃ (ap Whole z ∙ ap by (sym (le-ltb (length row) (length (encode a gs)) k)))
-              (laid-first k b ∙ ap (λ (x : ℕ). encode a gs ++ drop x row) (sym z))
+      module _ (at : ℕ) (e : r ≡ Whole at) where
+        fits : length (headOf a rest) + rest ≤ length row
+        unfolding NothingWritten
+        fits =
+            (elim cut as (λ u. cut ≡ u → length (headOf a rest) + rest ≤ length row) [
+              | true ↦ λ t. absurd (subst NothingWritten (sym (sym e ∙ q ∙ head-by true t)) tt)
+              | false ↦ λ t. ltb-false (length row) (length (headOf a rest) + rest) t
+            ]) refl
+
+        cut-not : cut ≡ false
+        cut-not = le-ltb (length row) (length (headOf a rest) + rest) fits
+
+        ends : at ≡ length (headOf a rest)
+        unfolding placeOf
+        ends = ap placeOf (sym e ∙ q ∙ head-by false cut-not)
+
+        pub head-laid : Laid row 0 (headOf a rest) row′ at
+        unfolding rowAfter
+        head-laid =
+            let y : row′ ≡ headOf a rest ++ drop (length (headOf a rest)) row =
+            k ∙ ap (λ (w : Writing). rowAfter w (headOf a rest) row) (head-by false cut-not) in
+            let z : sets row 0 (headOf a rest) ≡ headOf a rest ++ drop (length (headOf a rest)) row =
+            laid-first {row = row} {bytes = headOf a rest} {next = 0 + length (headOf a rest)} (omega (arith, fits)) (record { ends = refl; long = length-sets row 0 (headOf a rest); says = refl }) in
+            record { ends = omega (arith, ends); long = ap (λ (l : List ℕ). length l) (y ∙ sym z) ∙ length-sets row 0 (headOf a rest); says = y ∙ sym z }
+
+        pub rest-room : Room row′ at (gossipFields gs)
+        rest-room = record { fits = omega (arith, fits, ends, head-laid .long) }
+
+        pub all-written : {row″ : List ℕ} {end : ℕ} → Laid row′ at (gossipFields gs) row″ end
+            → (Whole end ≡ writtenOf (encode a gs) row) × (row″ ≡ rowAfter (writtenOf (encode a gs) row) (encode a gs) row)
+        unfolding rowAfter
+        all-written {row″} {end} f =
+            let b : Laid row 0 (encode a gs) row″ end = laid-as (headOf a rest ++ gossipFields gs) (encode a gs) (sym head-then) (laid-then head-laid f) in
+            let z : end ≡ length (encode a gs) = omega (arith, b .ends) in (
+              ap Whole z ∙ sym (all-by false cut-not),
+              laid-first (omega (arith, fits, long)) b ∙ sym (ap (λ (w : Writing). rowAfter w (encode a gs) row) (all-by false cut-not)),
+            )
+
+-- without records the head is the whole
+pub head-alone : (a : Action) (row : List ℕ) (r : Writing) (row′ : List ℕ) → (r ≡ headedOf (headOf a 0) 0 row) × (row′ ≡ rowAfter (headedOf (headOf a 0) 0 row) (headOf a 0) row)
+    → (r ≡ writtenOf (encode a []) row) × (row′ ≡ rowAfter (writtenOf (encode a []) row) (encode a []) row)
+unfolding headedOf writtenOf gossipFields
+head-alone a row r row′ w =
+    let e : encode a [] ≡ headOf a 0 = head-then a [] ∙ append-nil (headOf a 0) in
+    let z : length (headOf a 0) + 0 ≡ length (headOf a 0) = omega arith in
+    let q : headedOf (headOf a 0) 0 row ≡ writtenOf (encode a []) row =
+    ap (λ (n : ℕ). firstOf ((ltb (length row) n, NoRoom) ∷ []) Refused (Whole (length (headOf a 0)))) z
+    ∙ ap (λ (l : List ℕ). writtenOf l row) (sym e) in
+    (w .0 ∙ q, w .1 ∙ (λ i. rowAfter (q i) (sym e i) row))
 
 -- no gossip, and all of it
 pub no-count : 0 ≡ length (gossipFields [])

@@ -3,7 +3,7 @@
 use mathlib.Core.Path.{_≡_}
 use mathlib.Core.Bool.{Bool, not, _&&_}
 use mathlib.Core.List.{List, [], _∷_, _++_, map}
-use Prim.Native.Nat.{ℕ, _≤_, _<_}
+use Prim.Native.Nat.{ℕ, _+_, _≤_, _<_}
 use lib.Dec.{ltb}
 use lib.ListN.{length, take, drop}
 use Rattle.model.specs.declared.Refusal.{Refusal}
@@ -12,12 +12,14 @@ use Rattle.model.specs.Bounds.{message-records}
 use Rattle.model.specs.Rows.{every}
 use Rattle.model.specs.Sound.{validGossip}
 use Rattle.model.specs.Calls.{firstOf, validAction}
-use Rattle.address.specs.Here.{here}
+use Rattle.address.specs.Here.{Addr, here, here-text as text}
 use Rattle.types.specs.declared.Gossip.{Gossip}
 use Rattle.types.specs.Views.{toGossip, toAction}
-use Rattle.incoming.specs.Encode.{encode}
+use Rattle.types.specs.Wire.{varint, tag, string}
+use Rattle.incoming.specs.Encode.{otherBytes, encode}
 use Rattle.types.specs.declared.Action.{Action}
 use Rattle.types.specs.declared.Action.the-variants.{Ping, PingReq, Ack}
+use Rattle.types.specs.declared.Optional.{Optional}
 use Rattle.types.specs.declared.Optional.the-variants as optional
 use Rattle.outgoing.specs.declared.Opened.{Opened}
 use Rattle.outgoing.specs.declared.Writing.{Writing}
@@ -28,6 +30,20 @@ unfoldable pub openOf : Action → Opened
 openOf (Ping f o) = record { kind = 1; from = f; other = o }
 openOf (PingReq f s) = record { kind = 2; from = f; other = optional.Given s }
 openOf (Ack f o) = record { kind = 3; from = f; other = o }
+
+-- the two addresses of an action
+unfoldable pub addressesOf : Addr → Optional → List ℕ
+addressesOf from other = string 1 (text from) ++ otherBytes other
+
+-- what stands before an action's records, which take `rest` bytes: the key, the count of all behind it, the addresses
+unfoldable pub headOf : Action → ℕ → List ℕ
+headOf a rest =
+    tag (openOf a .kind) 2
+    ++ (varint (length (addressesOf (openOf a .from) (openOf a .other)) + rest) ++ addressesOf (openOf a .from) (openOf a .other))
+
+-- 12 if these bytes and the `rest` behind them are more than the row has places
+unfoldable pub headedOf : List ℕ → ℕ → List ℕ → Writing
+headedOf bytes rest out = firstOf ((ltb (length out) (length bytes + rest), NoRoom) ∷ []) Refused (Whole (length bytes))
 
 -- 12 if the bytes are more than the row has places
 unfoldable pub writtenOf : List ℕ → List ℕ → Writing

@@ -1,11 +1,11 @@
 -- Each way out of the writer's tests.
 -- Assumes nothing.
-use mathlib.Core.Path.{_≡_, refl, ap, sym, _∙_}
+use mathlib.Core.Path.{_≡_, refl, ap, sym, _∙_, subst}
 use mathlib.Core.Bool.{Bool, true, false, not, _&&_}
 use mathlib.Core.List.{List, [], _∷_, map}
 use Prim.Native.Nat.{ℕ, _≤_, _<_}
 use native.Mathlib.Omega.{arith}
-use lib.Dec.{ltb}
+use lib.Dec.{ltb, lit≤}
 use lib.ListN.{length, take, length-take}
 use borrow.Author.Tests.{le-ltb}
 use Rattle.model.specs.declared.Refusal.the-variants.{ManyRecords, AddressRange, NoRoom}
@@ -56,3 +56,8 @@ module _ (a : Action) (row : List Gossip) (n : ℕ) (out : List ℕ) where
           → (r ≡ writtenOf (encode a gs) out) × (out′ ≡ rowAfter (writtenOf (encode a gs) out) (encode a gs) out) → Sends a row n out r out′
       unfolding writtenOf
       sends-written g r out′ w = answered r out′ (w .0 ∙ sym (tested true true e g)) (w .1 ∙ ap (λ (x : Writing). rowAfter x (encode a gs) out) (sym (w .0)))
+
+-- without records no row matters
+pub sends-bare : (a : Action) (row : List Gossip) (n : ℕ) (out : List ℕ) (r : Writing) (out′ : List ℕ) → n ≡ 0 → Sends a [] 0 out r out′ → Sends a row n out r out′
+sends-bare a row n out r out′ z s =
+    subst (λ (m : ℕ). Sends a row m out r out′) (sym z) (record { few = s .few; many = s .many })

@@ -1,6 +1,6 @@
 -- What a pick gave, or which draw it missed; and the node whose order it turned.
 -- Assumes nothing.
-use mathlib.Core.Path.{_≡_, refl, ap, sym, _∙_, subst}
+use mathlib.Core.Path.{_≡_, refl, ap, _∙_, subst}
 use mathlib.Core.List.{List, []}
 use mathlib.Core.Option.{Option, none, some}
 use Prim.Native.Nat.{ℕ, _-_, _≤_}
@@ -14,11 +14,10 @@ use Rattle.laws.specs.Pad.{take-pad}
 use Rattle.address.specs.Here.{Addr, here}
 use Rattle.model.specs.Members as list
 use Rattle.model.specs.Node as M
-use Rattle.laws_pick.specs.Picks.{Chosen, Drawn, after-drawn, pick-ends}
+use Rattle.laws_pick.specs.Picks.{Chosen, after-drawn, pick-ends}
 use Rattle.laws_node.specs.Good.{Good}
 use Rattle.laws_rules.specs.Keeps.{with-members}
 use Rattle.model.specs.declared.Drew.the-variants as drew
-use Rattle.order.specs.declared.Picks.{Picks}
 use Rattle.member.specs.declared.Members.{Members}
 use Rattle.member.specs.declared.Picked.{Picked}
 use Rattle.member.specs.Views.{packMembers, pickedAs}

@@ -22,10 +22,7 @@ use Rattle.laws_node.specs.Good.{Good}
 use Rattle.laws.specs.Ranges.{ranges}
 use Rattle.laws_rules.specs.Keeps.{Keeps, change-keeps}
 use Rattle.laws_rules.specs.KeepsCalls.{suspect-keeps}
-use Rattle.types.specs.declared.Event.{Event}
-use Rattle.types.specs.declared.Event.the-variants.{Suspected}
-use Rattle.types.specs.declared.Gossip.{Gossip}
-use Rattle.types.specs.Views.{toEvent, toGossip}
+use Rattle.types.specs.Views.{toGossip}
 use Rattle.model.specs.declared.Drew.the-variants as drew
 use Rattle.order.specs.declared.Exclusion.the-variants.{Peer}
 use Rattle.heap.specs.declared.Heap.{Heap}
@@ -43,7 +40,8 @@ use Rattle.node.specs.Emitting.{Said, emit-full, emit-kept}
 use Rattle.wait.specs.declared.Wait.{Wait}
 use Rattle.wait.specs.declared.Stepped.{Stepped}
 use Rattle.wait.specs.Views.{toWait, steppedOf, plainStep, keptOf}
-use Rattle.pinging.specs.Views.{groupAsked}
+use Rattle.pinging.specs.declared.Suspicion.{Suspicion}
+use Rattle.pinging.specs.Views.{groupAsked, suspicionOf}
 use Rattle.wait.specs.Ends.{plain-step}
 use Rattle.pinging.proofs.Drawing.{missed, after-is, Turned, turned}
 
@@ -59,10 +57,10 @@ pub record Request : Type 0 where
   pub valid : here .valid target ≡ true
   pub members : Members
   pub members-is : members ≡ packMembers (node .own) (list.update (here .same) (record { addr = target; state = state.Suspected; number = number }) (viewMembers (node .members)))
-  pub gossip : Gossip
-  pub named : gossip .event ≡ Suspected (node .own) target number
+  pub said : Suspicion
+  pub said-is : said ≡ suspicionOf (node .own) target number
   pub pushed : Renewed
-  pub pushed-is : pushed ≡ renewed (node .settings .collect) (toGossip gossip) (node .disseminator .alive)
+  pub pushed-is : pushed ≡ renewed (node .settings .collect) (toGossip (said .gossip)) (node .disseminator .alive)
 
 module _ (q : Request) where
   abbrev changed : M.Node Addr
@@ -76,6 +74,14 @@ module _ (q : Request) where
   unfolding M.change viewNode
   changed-is = part-members (q .node) (q .ready) (list.update (here .same) (record { addr = q .target; state = state.Suspected; number = q .number }) (viewNode (q .node) .members)) (q .members) (q .members-is)
 
+  -- what a pick from the changed list asks for
+  pub changed-ready : Ready (withMembers (q .node) (q .members))
+  changed-ready = rw changed-is (ready-pack changed changed-good)
+
+  pub wanted-few : q .node .settings .«ping_req_group_size» ≤ 4
+  unfolding viewNode
+  wanted-few = ranges (q .node .settings) (q .ready .good .settings) .group
+
   abbrev outcome : A.Answer (D.Stepped Addr) → Stepped
   outcome x = steppedOf (keptStep here (storedView (q .node)) (toWait (q .wait)) (q .draws) x)
 
@@ -86,9 +92,9 @@ module _ (q : Request) where
   abbrev then-ask : A.Answer (M.Out Addr) → A.Answer (D.Stepped Addr)
   then-ask x = A.andThen x λ o rest. A.andThen (D.pickGroup here (q .target) (o .node) rest) λ p rest₂. A.done (D.asked here (q .target) (q .number) (q .tick) o p) rest₂
 
-  suspects : D.suspect here (q .target) (q .number) (viewNode (q .node)) (q .draws) ≡ M.emit here kind.Alive (toGossip (q .gossip)) changed (q .draws)
+  suspects : D.suspect here (q .target) (q .number) (viewNode (q .node)) (q .draws) ≡ M.emit here kind.Alive (toGossip (q .said .gossip)) changed (q .draws)
   unfolding D.suspect viewNode
-  suspects = ap (λ (x : Event). M.emit here kind.Alive (record { event = toEvent x }) changed (q .draws)) (sym (q .named))
+  suspects = ap (λ (x : Suspicion). M.emit here kind.Alive (toGossip (x .gossip)) changed (q .draws)) (sym (q .said-is))
 
   abbrev on : Bool
   on = q .node .settings .collect
@@ -96,31 +102,31 @@ module _ (q : Request) where
   abbrev living : Heap
   living = q .node .disseminator .alive
 
-  pushes : Pushes on kind.Alive (toGossip (q .gossip)) (q .node .disseminator) (record { alive = q .pushed .grown .heap; deceased = q .node .disseminator .deceased }) (q .pushed .grown .full)
+  pushes : Pushes on kind.Alive (toGossip (q .said .gossip)) (q .node .disseminator) (record { alive = q .pushed .grown .heap; deceased = q .node .disseminator .deceased }) (q .pushed .grown .full)
   pushes =
-      alive-pushes (q .node .disseminator) (q .ready .heaps) (toGossip (q .gossip)) on (clearedHeap on kind.Alive (toGossip (q .gossip)) living) (q .pushed .grown) refl
+      alive-pushes (q .node .disseminator) (q .ready .heaps) (toGossip (q .said .gossip)) on (clearedHeap on kind.Alive (toGossip (q .said .gossip)) living) (q .pushed .grown) refl
       (ap (λ (x : Renewed). x .grown) (q .pushed-is))
 
   pub request-full : q .pushed .grown .full ≡ true → plainStep (Refused AliveFull) (q .node) (q .wait) ≡ requested
   unfolding D.sendPingReq viewNode M.change
   request-full h =
       plain-step (Refused AliveFull) (q .node) (q .wait)
-      ∙ sym (ap (λ (x : A.Answer (M.Out Addr)). outcome (then-ask x)) (suspects ∙ emit-full kind.Alive (toGossip (q .gossip)) (q .draws) changed-good changed-is pushes h))
+      ∙ sym (ap (λ (x : A.Answer (M.Out Addr)). outcome (then-ask x)) (suspects ∙ emit-full kind.Alive (toGossip (q .said .gossip)) (q .draws) changed-good changed-is pushes h))
 
   module _ (h : q .pushed .grown .full ≡ false) where
     -- the node with its heap changed too, of which the code makes the heap alone
     abbrev emitted : Node
     emitted = withDisseminator (withMembers (q .node) (q .members)) (record { alive = q .pushed .grown .heap; deceased = q .node .disseminator .deceased })
 
-    kept : Said kind.Alive (toGossip (q .gossip)) (q .draws) changed (M.emit here kind.Alive (toGossip (q .gossip)) changed (q .draws)) emitted
+    kept : Said kind.Alive (toGossip (q .said .gossip)) (q .draws) changed (M.emit here kind.Alive (toGossip (q .said .gossip)) changed (q .draws)) emitted
     unfolding viewNode M.change
-    kept = emit-kept kind.Alive (toGossip (q .gossip)) (q .draws) changed-good changed-is pushes h
+    kept = emit-kept kind.Alive (toGossip (q .said .gossip)) (q .draws) changed-good changed-is pushes h
 
     abbrev said : M.Node Addr
     said = kept .after
 
     abbrev told : ℕ → M.Out Addr
-    told n = record { node = said; said = toGossip (q .gossip) ∷ []; collected = n }
+    told n = record { node = said; said = toGossip (q .said .gossip) ∷ []; collected = n }
 
     suspected : D.suspect here (q .target) (q .number) (viewNode (q .node)) (q .draws) ≡ A.done (told (q .pushed .collected)) (q .draws)
     unfolding viewNode M.change
@@ -131,13 +137,6 @@ module _ (q : Request) where
 
     seen : viewNode emitted ≡ said
     seen = ap viewNode (kept .node) ∙ view-pack said (said-good .whole)
-
-    pub said-ready : Ready emitted
-    said-ready = rw (kept .node) (ready-pack said said-good)
-
-    pub wanted-few : q .node .settings .«ping_req_group_size» ≤ 4
-    unfolding viewNode
-    wanted-few = ranges (q .node .settings) (q .ready .good .settings) .group
 
     abbrev then-asked : A.Answer (list.Picked Addr) → A.Answer (D.Stepped Addr)
     then-asked x = A.andThen x λ p rest₂. A.done (D.asked here (q .target) (q .number) (q .tick) (told (q .pushed .collected)) p) rest₂
@@ -172,9 +171,9 @@ module _ (q : Request) where
         pub request-few : k .picks .count ≤ 4
         request-few = omega (arith, group .few, ranges (said .settings) (said-good .settings) .group)
 
-        pub request-kept : steppedOf (keptOf used (groupAsked (q .target) (q .number) (q .tick) (toGossip (q .gossip)) (q .pushed .collected) (D.askEach here (q .target) (take (k .picks .count) (k .picks .row)) (viewNode t) []))) ≡ requested
+        pub request-kept : steppedOf (keptOf used (groupAsked (q .said .target) (q .said .number) (q .tick) (toGossip (q .said .gossip)) (q .pushed .collected) (D.askEach here (q .said .target) (take (k .picks .count) (k .picks .row)) (viewNode t) []))) ≡ requested
         unfolding D.asked
         request-kept =
-            (λ i. steppedOf (keptOf (group .many i) (groupAsked (q .target) (q .number) (q .tick) (toGossip (q .gossip)) (q .pushed .collected) (D.askEach here (q .target) (group .picks i) (group .seen i) []))))
+            (λ i. steppedOf (keptOf (group .many i) (groupAsked (q .said-is i .target) (q .said-is i .number) (q .tick) (toGossip (q .said .gossip)) (q .pushed .collected) (D.askEach here (q .said-is i .target) (group .picks i) (group .seen i) []))))
             ∙ sym (ap (λ (j : A.Answer (list.Picked Addr)). outcome (then-asked j)) (group .is))
             ∙ reached

@@ -24,6 +24,7 @@ ghost use mathlib.Core.List.{[], map};
 ghost use Prim.Native.Nat.{_+_, _*_, _≤_, _<_};
 ghost use lib.ListN.{length, take};
 ghost use Rattle.address.specs.Here.{here};
+ghost use Rattle.model.specs.declared.State.the-variants.{Suspected};
 ghost use Rattle.model.specs.Detector as D;
 ghost use Rattle.model.specs.Calls as calls;
 ghost use Rattle.types.specs.Views.{toGossip};
@@ -31,7 +32,7 @@ ghost use Rattle.disseminate.specs.Fit.{most-chosen};
 ghost use Rattle.node.specs.Views.{storedView, viewNode};
 ghost use Rattle.node.specs.Rows.{Ready};
 ghost use Rattle.wait.specs.Views.{toWait, keptOf, Gives, PackedMail};
-ghost use Rattle.pinging.specs.Views.{askedOne, askedOf, groupAsked};
+ghost use Rattle.pinging.specs.Views.{askedOne, askedOf, groupAsked, suspicionOf};
 
 // An array has as many places as its type says. The prover finds this of an array that stands by itself, so it is handed over once.
 fn has_picks(row: [Address; Picks::CAPACITY])
@@ -144,20 +145,27 @@ fn ask_each(node: Node, picks: Picks, suspect: Address) -> Asked
     Asked { node: ahead, mail }
 }
 
+// Of whom a suspicion is, at which number, and the gossip that reports it.
+pub struct Suspicion {
+    pub target: Address,
+    pub number: u64,
+    pub gossip: Gossip,
+}
+
 // The group is asked about a suspect, and the answer waited for. `collected` events went when the suspicion came.
 fn ask_group(
     node: Node,
     picks: Picks,
-    target: Address,
-    number: u64,
-    suspected: Gossip,
+    s: Suspicion,
     collected: usize,
     used: usize,
     tick: u32,
 ) -> Stepped
     requires { ⌜ Ready node × (picks .count ≤ 4) ⌝ }
-    ensures { λ r. ⌜ Gives (keptOf used (groupAsked target number tick (toGossip suspected) collected (D.askEach here target (take (picks .count) (picks .row)) (viewNode node) []))) r ⌝ }
+    ensures { λ r. ⌜ Gives (keptOf used (groupAsked (s .target) (s .number) tick (toGossip (s .gossip)) collected (D.askEach here (s .target) (take (picks .count) (picks .row)) (viewNode node) []))) r ⌝ }
 {
+    let target = s.target;
+    let number = s.number;
     let asked = ask_each(node, picks, target);
     let after = asked.node;
     let mail = asked.mail;
@@ -165,8 +173,33 @@ fn ask_group(
         state: WaitState::WaitingForPingReqAck { target, number },
         since: tick,
     };
+    let suspected = s.gossip;
     let events = [suspected; Stepped::EVENTS];
     Stepped::kept(used, after, mail, wait, events, 1, collected)
+}
+
+// The record of a suspect.
+fn suspect(addr: Address, number: u64) -> Member
+    ensures { λ r. ⌜ r ≡ record { addr = addr; state = Suspected; number = number } ⌝ }
+{
+    Member {
+        addr,
+        state: State::Suspected,
+        number,
+    }
+}
+
+// What is said of a suspect.
+fn suspicion_of(own: Address, target: Address, number: u64) -> Suspicion
+    ensures { λ r. ⌜ r ≡ suspicionOf own target number ⌝ }
+{
+    Suspicion {
+        target,
+        number,
+        gossip: Gossip {
+            event: Event::new_node_suspected(own, target, number),
+        },
+    }
 }
 
 // SendingPingReq: Suspected at the remembered number, emitted even if absent (9), then the group is picked without the suspect (8) and asked.
@@ -181,31 +214,22 @@ pub fn send_ping_req(
     requires { ⌜ Ready node × (here .valid target ≡ true) ⌝ }
     ensures { λ r. ⌜ Gives (calls.keptStep here (storedView node) (toWait wait) (now (draws .entry)) (D.sendPingReq here target number tick (viewNode node) (now (draws .entry)))) r ⌝ }
 {
+    let own = node.own;
     let members = node.members;
-    let changed = members.update_member(
-        node.own,
-        Member {
-            addr: target,
-            state: State::Suspected,
-            number,
-        },
-    );
-    let suspected = Gossip {
-        event: Event::new_node_suspected(node.own, target, number),
-    };
+    let changed = members.update_member(own, suspect(target, number));
+    let suspected = suspicion_of(own, target, number);
     let settings = node.settings;
-    let pushed = collect::renew(node.disseminator.alive, settings.collect, suspected);
+    let pushed = collect::renew(node.disseminator.alive, settings.collect, suspected.gossip);
     if pushed.grown.full {
         return Stepped::plain(Reply::Refused(Refusal::AliveFull), node, wait);
     }
     let wanted = settings.ping_req_group_size;
-    let picked = changed.get_member_list(node.own, Exclusion::Peer(target), wanted, draws, 0);
+    let picked = changed.get_member_list(own, Exclusion::Peer(target), wanted, draws, 0);
     let after = picked.members;
     let picks = picked.picks;
     let drew = picked.drew;
     match drew {
         Drew::Used(used) => {
-            let own = node.own;
             let timers = node.timers;
             let departed = node.departed;
             let alive = pushed.grown.heap;
@@ -218,16 +242,7 @@ pub fn send_ping_req(
                 timers,
                 departed,
             };
-            ask_group(
-                turned,
-                picks,
-                target,
-                number,
-                suspected,
-                pushed.collected,
-                used,
-                tick,
-            )
+            ask_group(turned, picks, suspected, pushed.collected, used, tick)
         }
         Drew::Refused(missed) => Stepped::plain(Reply::Refused(missed), node, wait),
     }

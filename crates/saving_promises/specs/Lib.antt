@@ -4,3 +4,6 @@ pub mod Restarts
 pub mod Worked
 pub mod Salvages
 pub mod WorkedSalvage
+pub mod Placed
+pub mod Survives
+pub mod Crowded

@@ -58,7 +58,7 @@ getD-said l m ws i e h = ap (λ (x : List Said). getD (x ++ m) i (said word.Cut)
     at (w ∷ ws) zero h = refl
     at (w ∷ ws) (suc i) h = at ws i (omega arith)
 
-in-row : (ws : List Word) (i : ℕ) → i < length ws → getD (rowOfWords ws) i (said word.Cut) .word ≡ getD ws i word.Cut
+pub in-row : (ws : List Word) (i : ℕ) → i < length ws → getD (rowOfWords ws) i (said word.Cut) .word ≡ getD ws i word.Cut
 unfolding rowOfWords
 in-row ws i k = ap (λ (x : Said). x .word) (getD-said (map said ws) (replicate (64 - length (map said ws)) (said word.Cut)) ws i refl k)
 

@@ -1,9 +1,7 @@
 -- `pinging::ask_each` meets its contract: what is left gives the answer of the whole.
 -- Assumes nothing.
-use mathlib.Core.Path.{_≡_}
 use Prim.Native.Nat.{_-_}
 use native.Mathlib.Omega.{arith}
-use lib.ListN.{length}
 use borrow.Author.Needs.{needs}
 use Rattle.pinging.proofs.Asking.{Left, left-start, left-bounds, left-node, left-mail, left-stop, left-next}
 use Rattle.pinging.proofs.ask_each.Statement.{statement}

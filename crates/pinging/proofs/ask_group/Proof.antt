@@ -19,14 +19,14 @@ use Rattle.pinging.proofs.ask_group.Tie as tie
 
 returns : tie.Need-returns
 returns c =
-    let k = c .before .before .before in
-    let a = k .before .args in
-    let e : M.Effect Addr = D.askEach here (a .target) (take (a .picks .count) (a .picks .row)) (viewNode (a .node)) [] in
+    let k = c .before .before .before .before in
+    let a = k .before .before .args in
+    let e : M.Effect Addr = D.askEach here (a .s .target) (take (a .picks .count) (a .picks .row)) (viewNode (a .node)) [] in
     record {
       is =
           c .kept .ensures
-          ∙ kept-rows (a .used) (k .ask-each .result .node) (k .ask-each .result .mail) _ (a .suspected ∷ []) 1 (e .node) (e .messages) (toGossip (a .suspected) ∷ []) (a .collected) (D.enters (W.WaitingForPingReqAck (a .target) (a .number)) (a .tick))
-          (ap (λ (x : Asked). x .node) (k .ask-each .ensures .0)) (ap (λ (x : Asked). x .mail) (k .ask-each .ensures .0)) refl (λ i. sym (from-to-gossip (a .suspected)) i ∷ []) refl;
+          ∙ kept-rows (a .used) (k .ask-each .result .node) (k .ask-each .result .mail) _ (a .s .gossip ∷ []) 1 (e .node) (e .messages) (toGossip (a .s .gossip) ∷ []) (a .collected) (D.enters (W.WaitingForPingReqAck (a .s .target) (a .s .number)) (a .tick))
+          (ap (λ (x : Asked). x .node) (k .ask-each .ensures .0)) (ap (λ (x : Asked). x .mail) (k .ask-each .ensures .0)) refl (λ i. sym (from-to-gossip (a .s .gossip)) i ∷ []) refl;
       written = omega (arith, ap (λ (x : Stepped). x .written) (c .kept .ensures), k .ask-each .ensures .1);
       reported = omega (arith, ap (λ (x : Stepped). x .reported) (c .kept .ensures));
     }

@@ -1,56 +1,22 @@
--- `cwords::nodes::gone_of` meets its contract: after i turns the first i places are made of the first i.
+-- `cwords::nodes::gone_of` meets its contract: a place a turn.
 -- Assumes nothing.
-use mathlib.Core.Path.{_≡_, refl, ap, sym, _∙_}
-use Prim.Native.Nat.{ℕ, _+_, _-_, _≤_}
-use native.Mathlib.Omega.{arith}
-use lib.ListN.{length, take, drop, replicate, length-take, length-map}
-use mathlib.Core.List.{List, [], _∷_, _++_, map}
-use Rattle.model.specs.Rows.{padTo}
-use Rattle.departed.specs.Views.{noDeparted}
-use Rattle.departed.specs.declared.Departed.{Departed}
-use Rattle.cwords.specs.Reading.{departedOf}
-use Rattle.cwords.proofs.Filling.{fill-next, fill-all}
+use Prim.Native.Nat.{_-_}
 use borrow.Author.Needs.{needs}
+use Rattle.cwords.specs.Reading.{departedOf}
+use Rattle.cwords.proofs.Filling.{Laid, laid-none, laid-next, filled}
 use Rattle.cwords.proofs.nodes.gone_of.Statement.{statement}
 use Rattle.cwords.proofs.nodes.gone_of.Tie as tie
 
 abbrev Inv-loop : tie.InvT-loop
-Inv-loop rows out₀ i₀ out i = (i ≤ 128) × (out ≡ padTo 128 noDeparted (take i (map departedOf rows)))
+Inv-loop rows out₀ i₀ out i = Laid departedOf rows 128 out₀ i out
 
 abbrev μ-loop : tie.MeasureT-loop
 μ-loop rows out₀ i₀ out i = 128 - i
 
-loop-holds : tie.Need-loop-holds Inv-loop μ-loop
-loop-holds c = (omega arith, ap (λ (z : Departed). replicate 128 z) (c .empty .ensures))
-
-loop-again : tie.Need-loop-again Inv-loop μ-loop
-loop-again c =
-    let l = c .before .before .before .loop in
-    let a = c .before .before .before .before .before .args in
-    let hl : length (a .t1) ≡ 128 = search needs in
-    (omega arith, fill-next departedOf 128 (l .i) noDeparted _ (a .t1) _ _ (omega arith) (omega arith) (c .departed-of .ensures) (l .inv .1))
-
-returns : tie.Need-returns Inv-loop μ-loop
-returns c =
-    let l = c .before .loop in
-    let a = c .before .before .before .args in
-    let hl : length (a .t1) ≡ 128 = search needs in
-    fill-all departedOf 128 (l .i) noDeparted (a .t1) _ hl (omega arith) (l .inv .1)
-
 pub gone-of-spec : {M : Type 1} → statement M
 gone-of-spec =
     tie.close
-    (tie.spec
-    Inv-loop
-    μ-loop
-    (λ c κs. search needs)
-    loop-holds
-    (λ c. search needs)
-    (λ c. search needs)
-    (λ c κs. search needs)
-    (λ c. search needs)
-    (λ c. search needs)
-    (λ c. search needs)
-    (λ c. search needs)
-    loop-again
-    returns)
+    (tie.spec Inv-loop μ-loop
+    (λ c κs. search needs) (λ c. laid-none) (λ c. search needs) (λ c. search needs) (λ c κs. search needs) (λ c. search needs) (λ c. search needs) (λ c. search needs) (λ c. search needs)
+    (λ c. laid-next (c .before .before .before .loop .inv) _ (search needs) (search needs) (search needs) (c .departed-of .ensures))
+    (λ c. filled (c .before .loop .inv) (search needs) (search needs) (search needs)))

@@ -1,9 +1,6 @@
 -- `cwords::nodes::head_words` meets its contract.
 -- Assumes nothing.
-use mathlib.Core.Path.{_≡_, refl, ap, sym, _∙_}
 use native.Mathlib.Omega.{arith}
-use Prim.Native.Nat.{ℕ}
-use mathlib.Core.List.{List, [], _∷_}
 use Rattle.cwords.specs.Writing.{headWords}
 use borrow.Author.Needs.{needs}
 use Rattle.cwords.proofs.nodes.head_words.Statement.{statement}

@@ -1,6 +1,5 @@
 -- `cwords::nodes::list_of` meets its contract.
 -- Assumes nothing.
-use mathlib.Core.Path.{_≡_, refl, ap, sym, _∙_}
 use Rattle.cwords.specs.Reading.{membersOf}
 use borrow.Author.Needs.{needs}
 use Rattle.cwords.proofs.nodes.list_of.Statement.{statement}

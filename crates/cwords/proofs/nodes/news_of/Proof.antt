@@ -1,6 +1,5 @@
 -- `cwords::nodes::news_of` meets its contract.
 -- Assumes nothing.
-use mathlib.Core.Path.{_≡_, refl, ap, sym, _∙_}
 use Rattle.cwords.specs.Reading.{disseminatorOf}
 use borrow.Author.Needs.{needs}
 use Rattle.cwords.proofs.nodes.news_of.Statement.{statement}

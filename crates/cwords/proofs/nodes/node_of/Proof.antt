@@ -1,6 +1,5 @@
 -- `cwords::nodes::node_of` meets its contract.
 -- Assumes nothing.
-use mathlib.Core.Path.{_≡_, refl, ap, sym, _∙_}
 use Rattle.cwords.specs.Reading.{nodeOf, settingsOf}
 use borrow.Author.Needs.{needs}
 use Rattle.cwords.proofs.nodes.node_of.Statement.{statement}

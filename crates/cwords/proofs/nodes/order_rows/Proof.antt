@@ -1,59 +1,23 @@
--- `cwords::nodes::order_rows` meets its contract: after i turns the first i places are made of the first i, and are read as those again.
+-- `cwords::nodes::order_rows` meets its contract: a place a turn, each read back.
 -- Assumes nothing.
-use mathlib.Core.Path.{_≡_, refl, ap, sym, _∙_}
-use Prim.Native.Nat.{ℕ, _+_, _-_, _≤_}
-use native.Mathlib.Omega.{arith}
-use lib.ListN.{length, take, drop, replicate, length-take, length-map}
-use mathlib.Core.List.{List, [], _∷_, _++_, map}
-use Rattle.model.specs.Rows.{padTo}
+use Prim.Native.Nat.{_-_}
+use borrow.Author.Needs.{needs}
 use Rattle.cwords.specs.Reading.{addressIn}
 use Rattle.cwords.specs.Writing.{addressWords}
-use Rattle.cwords.proofs.Filling.{fill-next, fill-all, back-next, back-all}
-use borrow.Author.Needs.{needs}
+use Rattle.cwords.proofs.Filling.{Backed, backed-none, backed-next, filled-back}
 use Rattle.cwords.proofs.nodes.order_rows.Statement.{statement}
 use Rattle.cwords.proofs.nodes.order_rows.Tie as tie
 
 abbrev Inv-loop : tie.InvT-loop
-Inv-loop values out₀ i₀ out i = (i ≤ 64) × (out ≡ padTo 64 (replicate 3 0) (take i (map addressWords values))) × (map addressIn (take i (map addressWords values)) ≡ take i values)
+Inv-loop values out₀ i₀ out i = Backed addressWords addressIn values 64 out₀ i out
 
 abbrev μ-loop : tie.MeasureT-loop
 μ-loop values out₀ i₀ out i = 64 - i
 
-loop-holds : tie.Need-loop-holds Inv-loop μ-loop
-loop-holds c = (omega arith, refl, refl)
-
-loop-again : tie.Need-loop-again Inv-loop μ-loop
-loop-again c =
-    let l = c .before .before .before .loop in
-    let a = c .before .before .before .before .args in
-    let e = c .address-words .ensures in
-    let hl : length (a .t1) ≡ 64 = search needs in (
-      omega arith,
-      fill-next addressWords 64 (l .i) (replicate 3 0) _ (a .t1) _ _ (omega arith) (omega arith) (e .0) (l .inv .1),
-      back-next addressWords addressIn (l .i) _ (a .t1) _ (omega arith) (e .0) (e .1) (l .inv .2),
-    )
-
-returns : tie.Need-returns Inv-loop μ-loop
-returns c =
-    let l = c .before .loop in
-    let a = c .before .before .args in
-    let hl : length (a .t1) ≡ 64 = search needs in
-    let e = fill-all addressWords 64 (l .i) (replicate 3 0) (a .t1) _ hl (omega arith) (l .inv .1) in
-    (e, back-all addressWords addressIn 64 (l .i) (a .t1) _ hl (omega arith) e (l .inv .2))
-
 pub order-rows-spec : {M : Type 1} → statement M
 order-rows-spec =
     tie.close
-    (tie.spec
-    Inv-loop
-    μ-loop
-    loop-holds
-    (λ c. search needs)
-    (λ c. search needs)
-    (λ c κs. search needs)
-    (λ c. search needs)
-    (λ c. search needs)
-    (λ c. search needs)
-    (λ c. search needs)
-    loop-again
-    returns)
+    (tie.spec Inv-loop μ-loop
+    (λ c. backed-none) (λ c. search needs) (λ c. search needs) (λ c κs. search needs) (λ c. search needs) (λ c. search needs) (λ c. search needs) (λ c. search needs)
+    (λ c. backed-next (c .before .before .before .loop .inv) _ (search needs) (search needs) (search needs) (c .address-words .ensures))
+    (λ c. filled-back (c .before .loop .inv) (search needs) (search needs) (search needs)))

@@ -1,7 +1,5 @@
 -- `cwords::nodes::switch_word` meets its contract.
 -- Assumes nothing.
-use mathlib.Core.Path.{_≡_, refl, ap, sym, _∙_}
-use borrow.Author.Needs.{needs}
 use Rattle.cwords.proofs.nodes.switch_word.Statement.{statement}
 use Rattle.cwords.proofs.nodes.switch_word.Tie as tie
 

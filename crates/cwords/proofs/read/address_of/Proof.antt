@@ -1,7 +1,6 @@
 -- `cwords::read::address_of` meets its contract.
 -- Assumes nothing.
-use mathlib.Core.Path.{_≡_, refl, ap, sym, _∙_}
-use borrow.Author.Tests.{eq-eqb, ne-eqb, lt-ltb, le-ltb, not-true, not-false}
+use borrow.Author.Tests.{lt-ltb, le-ltb}
 use Rattle.cwords.specs.Reading.{addressOf}
 use borrow.Author.Needs.{needs}
 use Rattle.cwords.proofs.read.address_of.Statement.{statement}

@@ -1,8 +1,7 @@
 -- `cwords::read::capped` meets its contract.
 -- Assumes nothing.
-use mathlib.Core.Path.{_≡_, refl, ap, sym, _∙_}
 use native.Mathlib.Omega.{arith}
-use borrow.Author.Tests.{eq-eqb, ne-eqb, lt-ltb, le-ltb, not-true, not-false}
+use borrow.Author.Tests.{lt-ltb, le-ltb}
 use borrow.Author.Needs.{needs}
 use Rattle.cwords.proofs.read.capped.Statement.{statement}
 use Rattle.cwords.proofs.read.capped.Tie as tie

@@ -1,7 +1,6 @@
 -- `cwords::read::first_wait` meets its contract.
 -- Assumes nothing.
-use mathlib.Core.Path.{_≡_, refl, ap, sym, _∙_}
-use borrow.Author.Tests.{eq-eqb, ne-eqb, lt-ltb, le-ltb, not-true, not-false}
+use mathlib.Core.Path.{sym, _∙_}
 use borrow.Author.Needs.{needs}
 use Rattle.cwords.proofs.read.first_wait.Statement.{statement}
 use Rattle.cwords.proofs.read.first_wait.Tie as tie

@@ -1,24 +1,10 @@
--- `cwords::read::member_of` meets its contract.
+-- `cwords::read::member_of` meets its contract: a state at a time.
 -- Assumes nothing.
-use mathlib.Core.Path.{_≡_, refl, ap, sym, _∙_}
-use borrow.Author.Tests.{eq-eqb, ne-eqb, lt-ltb, le-ltb, not-true, not-false}
+use borrow.Author.Tests.{ne-eqb}
 use Rattle.cwords.specs.Reading.{memberOf, memberAs}
 use borrow.Author.Needs.{needs}
 use Rattle.cwords.proofs.read.member_of.Statement.{statement}
 use Rattle.cwords.proofs.read.member_of.Tie as tie
-
-returns : tie.Need-returns
-unfolding memberOf memberAs
-returns c = rw (eq-eqb _ _ (c .if1 .taken), c .before .address-of .ensures)
-
-returns-2 : tie.Need-returns-2
-unfolding memberOf memberAs
-returns-2 c = rw (ne-eqb _ _ (c .before .if1 .left), eq-eqb _ _ (c .if2 .taken), c .before .before .address-of .ensures)
-
-returns-3 : tie.Need-returns-3
-unfolding memberOf memberAs
-returns-3 c =
-    rw (ne-eqb _ _ (c .before .before .if1 .left), ne-eqb _ _ (c .before .if2 .left), eq-eqb _ _ (c .if3 .taken), c .before .before .before .address-of .ensures)
 
 returns-4 : tie.Need-returns-4
 unfolding memberOf memberAs
@@ -26,6 +12,7 @@ returns-4 c =
     rw (ne-eqb _ _ (c .before .before .before .if1 .left), ne-eqb _ _ (c .before .before .if2 .left), ne-eqb _ _ (c .before .if3 .left), c .nowhere .ensures)
 
 pub member-of-spec : {M : Type 1} → statement M
+unfolding memberOf memberAs
 member-of-spec =
     tie.close
     (tie.spec
@@ -35,8 +22,8 @@ member-of-spec =
     (λ c κs. search needs)
     (λ c. search needs)
     (λ c. search needs)
-    returns
-    returns-2
-    returns-3
+    (λ c. rw (c .if1 .taken, c .before .address-of .ensures))
+    (λ c. rw (c .if2 .taken, c .before .before .address-of .ensures))
+    (λ c. rw (c .if3 .taken, c .before .before .before .address-of .ensures))
     (λ c κs. search needs)
     returns-4)

@@ -1,7 +1,6 @@
 -- `cwords::read::optional_of` meets its contract.
 -- Assumes nothing.
-use mathlib.Core.Path.{_≡_, refl, ap, sym, _∙_}
-use borrow.Author.Tests.{eq-eqb, ne-eqb, lt-ltb, le-ltb, not-true, not-false}
+use borrow.Author.Tests.{eq-eqb, ne-eqb}
 use Rattle.cwords.specs.Reading.{optionalOf}
 use borrow.Author.Needs.{needs}
 use Rattle.cwords.proofs.read.optional_of.Statement.{statement}

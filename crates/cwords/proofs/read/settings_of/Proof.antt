@@ -1,6 +1,5 @@
 -- `cwords::read::settings_of` meets its contract.
 -- Assumes nothing.
-use mathlib.Core.Path.{_≡_, refl, ap, sym, _∙_}
 use Rattle.cwords.specs.Reading.{settingsOf}
 use borrow.Author.Needs.{needs}
 use Rattle.cwords.proofs.read.settings_of.Statement.{statement}

@@ -1,47 +1,33 @@
--- `cwords::read::state_of` meets its contract.
+-- `cwords::read::state_of` meets its contract: a kind at a time.
 -- Assumes nothing.
-use mathlib.Core.Path.{_≡_, refl, ap, sym, _∙_}
-use borrow.Author.Tests.{eq-eqb, ne-eqb, lt-ltb, le-ltb, not-true, not-false}
+use mathlib.Core.Path.{sym, _∙_}
 use Rattle.cwords.specs.Reading.{stateOf}
+use Rattle.cwords.proofs.Decoding.{past-four}
 use borrow.Author.Needs.{needs}
 use Rattle.cwords.proofs.read.state_of.Statement.{statement}
 use Rattle.cwords.proofs.read.state_of.Tie as tie
 
-returns : tie.Need-returns
-unfolding stateOf
-returns c = rw (eq-eqb _ _ (c .if1 .taken))
-
-returns-2 : tie.Need-returns-2
-unfolding stateOf
-returns-2 c = rw (ne-eqb _ _ (c .before .if1 .left), eq-eqb _ _ (c .if2 .taken))
-
-returns-3 : tie.Need-returns-3
-unfolding stateOf
-returns-3 c = rw (ne-eqb _ _ (c .before .before .if1 .left), ne-eqb _ _ (c .before .if2 .left), eq-eqb _ _ (c .if3 .taken))
-
-returns-4 : tie.Need-returns-4
-unfolding stateOf
-returns-4 c =
-    rw (ne-eqb _ _ (c .before .before .before .if1 .left), ne-eqb _ _ (c .before .before .if2 .left), ne-eqb _ _ (c .before .if3 .left), eq-eqb _ _ (c .if4 .taken))
-
 returns-5 : tie.Need-returns-5
 unfolding stateOf
 returns-5 c =
-    rw (ne-eqb _ _ (c .before .before .before .before .before .if1 .left), ne-eqb _ _ (c .before .before .before .before .if2 .left), ne-eqb _ _ (c .before .before .before .if3 .left), ne-eqb _ _ (c .before .before .if4 .left), sym (c .before .zeroed .ensures) ∙ c .if5 .taken)
+    let k = c .before .before in
+    rw (sym (c .before .zeroed .ensures) ∙ c .if5 .taken) (past-four _ _ _ _ _ _ (k .before .before .before .if1 .left) (k .before .before .if2 .left) (k .before .if3 .left) (k .if4 .left))
 
 returns-6 : tie.Need-returns-6
 unfolding stateOf
 returns-6 c =
-    rw (ne-eqb _ _ (c .before .before .before .before .before .before .if1 .left), ne-eqb _ _ (c .before .before .before .before .before .if2 .left), ne-eqb _ _ (c .before .before .before .before .if3 .left), ne-eqb _ _ (c .before .before .before .if4 .left), sym (c .before .before .zeroed .ensures) ∙ c .before .if5 .left, c .nowhere .ensures)
+    let k = c .before .before .before in
+    rw (sym (c .before .before .zeroed .ensures) ∙ c .before .if5 .left, c .nowhere .ensures) (past-four _ _ _ _ _ _ (k .before .before .before .if1 .left) (k .before .before .if2 .left) (k .before .if3 .left) (k .if4 .left))
 
 pub state-of-spec : {M : Type 1} → statement M
+unfolding stateOf
 state-of-spec =
     tie.close
     (tie.spec
-    returns
-    returns-2
-    returns-3
-    returns-4
+    (λ c. rw (c .if1 .taken))
+    (λ c. rw (c .if2 .taken))
+    (λ c. rw (c .if3 .taken))
+    (λ c. rw (c .if4 .taken))
     (λ c κs. search needs)
     returns-5
     (λ c κs. search needs)

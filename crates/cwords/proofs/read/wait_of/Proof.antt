@@ -1,8 +1,8 @@
 -- `cwords::read::wait_of` meets its contract.
 -- Assumes nothing.
-use mathlib.Core.Path.{_≡_, refl, ap, sym, _∙_}
+use mathlib.Core.Path.{_≡_}
 use native.Mathlib.Omega.{arith}
-use borrow.Author.Tests.{eq-eqb, ne-eqb, lt-ltb, le-ltb, not-true, not-false}
+use borrow.Author.Tests.{lt-ltb, le-ltb}
 use Prim.Native.Nat.{_%_}
 use lib.ListN.{getD}
 use Rattle.cwords.specs.Reading.{waitOf}

@@ -1,6 +1,5 @@
 -- `cwords::read::zeroed` meets its contract.
 -- Assumes nothing.
-use mathlib.Core.Path.{_≡_, refl, ap, sym, _∙_}
 use borrow.Author.Needs.{needs}
 use Rattle.cwords.proofs.read.zeroed.Statement.{statement}
 use Rattle.cwords.proofs.read.zeroed.Tie as tie

@@ -1,6 +1,5 @@
 -- `cwords::write::code_of` meets its contract.
 -- Assumes nothing.
-use mathlib.Core.Path.{_≡_, refl, ap, sym, _∙_}
 use borrow.Author.Needs.{needs}
 use Rattle.cwords.proofs.write.code_of.Statement.{statement}
 use Rattle.cwords.proofs.write.code_of.Tie as tie

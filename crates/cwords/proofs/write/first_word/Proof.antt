@@ -1,6 +1,5 @@
 -- `cwords::write::first_word` meets its contract.
 -- Assumes nothing.
-use mathlib.Core.Path.{_≡_, refl, ap, sym, _∙_}
 use native.Mathlib.Omega.{arith}
 use Rattle.cwords.specs.Writing.{firstWord}
 use borrow.Author.Needs.{needs}

@@ -1,9 +1,7 @@
 -- `cwords::write::optional_words` meets its contract.
 -- Assumes nothing.
-use mathlib.Core.Path.{_≡_, refl, ap, sym, _∙_}
+use mathlib.Core.Path.{refl}
 use Prim.{tt}
-use Prim.Native.Nat.{ℕ}
-use mathlib.Core.List.{List, [], _∷_}
 use Rattle.cwords.specs.Writing.{optionalWords}
 use Rattle.cwords.proofs.Encoding.{laid-first, optional-ends}
 use borrow.Author.Needs.{needs}

@@ -1,8 +1,6 @@
 -- `cwords::write::place_word` meets its contract.
 -- Assumes nothing.
-use mathlib.Core.Path.{_≡_, refl, ap, sym, _∙_}
 use native.Mathlib.Omega.{arith}
-use Rattle.cwords.specs.Writing.{placeWord}
 use borrow.Author.Needs.{needs}
 use Rattle.cwords.proofs.write.place_word.Statement.{statement}
 use Rattle.cwords.proofs.write.place_word.Tie as tie

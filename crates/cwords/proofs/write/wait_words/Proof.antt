@@ -1,10 +1,8 @@
 -- `cwords::write::wait_words` meets its contract: a state at a time.
 -- Assumes nothing.
-use mathlib.Core.Path.{_≡_, refl, ap, sym, _∙_}
+use mathlib.Core.Path.{refl}
 use Prim.{tt}
-use Prim.Native.Nat.{ℕ}
-use mathlib.Core.List.{List, [], _∷_}
-use Rattle.cwords.proofs.Encoding.{laid-second, wait-ends}
+use Rattle.cwords.proofs.Encoding.{wait-ends}
 use borrow.Author.Needs.{needs}
 use Rattle.cwords.proofs.write.wait_words.Statement.{statement}
 use Rattle.cwords.proofs.write.wait_words.Tie as tie
@@ -15,23 +13,23 @@ returns c =
 
 returns-2 : tie.Need-returns-2
 returns-2 c =
-    let f = c .first-word .ensures in
-    wait-ends (c .before .before .before .before .before .args .w) _ _ _ (c .before .before .state .given .1) (c .before .before .before .before .wide-tick .ensures) (laid-second _ _ _ _ f) (f .1)
+    let f = c .target-words .ensures in
+    wait-ends (c .before .before .before .before .before .args .w) _ _ _ (c .before .before .state .given .1) (c .before .before .before .before .wide-tick .ensures) (f .0) (f .1)
 
 returns-3 : tie.Need-returns-3
 returns-3 c =
-    let f = c .first-word2 .ensures in
-    wait-ends (c .before .before .before .before .before .args .w) _ _ _ (c .before .before .state2 .given .1) (c .before .before .before .before .wide-tick .ensures) (laid-second _ _ _ _ f) (f .1)
+    let f = c .target-words2 .ensures in
+    wait-ends (c .before .before .before .before .before .args .w) _ _ _ (c .before .before .state2 .given .1) (c .before .before .before .before .wide-tick .ensures) (f .0) (f .1)
 
 returns-4 : tie.Need-returns-4
 returns-4 c =
-    let f = c .first-word3 .ensures in
-    wait-ends (c .before .before .before .before .before .args .w) _ _ _ (c .before .before .state3 .given .1) (c .before .before .before .before .wide-tick .ensures) (laid-second _ _ _ _ f) (f .1)
+    let f = c .target-words3 .ensures in
+    wait-ends (c .before .before .before .before .before .args .w) _ _ _ (c .before .before .state3 .given .1) (c .before .before .before .before .wide-tick .ensures) (f .0) (f .1)
 
 returns-5 : tie.Need-returns-5
 returns-5 c =
-    let f = c .first-word4 .ensures in
-    wait-ends (c .before .before .before .before .before .args .w) _ _ _ (c .before .before .state4 .given .1) (c .before .before .before .before .wide-tick .ensures) (laid-second _ _ _ _ f) (f .1)
+    let f = c .target-words4 .ensures in
+    wait-ends (c .before .before .before .before .before .args .w) _ _ _ (c .before .before .state4 .given .1) (c .before .before .before .before .wide-tick .ensures) (f .0) (f .1)
 
 pub wait-words-spec : {M : Type 1} → statement M
 wait-words-spec =

@@ -5,7 +5,7 @@ use mathlib.Core.Bool.{true, _&&_}
 use Prim.Native.Nat.{ℕ, _≤_}
 use native.Mathlib.Omega.{arith}
 use lib.Dec.{eqb}
-use lib.ListN.{length}
+use lib.ListN.{length, replicate}
 use borrow.Author.Tests.{eqb-true}
 use borrow.Author.Needs.{needs}
 use Rattle.model.specs.declared.Kind.the-variants as kind
@@ -30,7 +30,7 @@ use Rattle.node.proofs.Node.spread.Tie as tie
 get-gossip-requires : tie.Need-get-gossip-requires
 unfolding viewNode
 get-gossip-requires c κs =
-    let r = c .before .before .before .before .before .before .before .before .before .before .before .pre in
+    let r = c .before .before .before .before .before .before .before .before .before .pre in
     (r .heaps .alive, r .heaps .deceased, r .good .heaps kind.Alive, r .good .heaps kind.Deceased, r .good .settings, r .members .packed .few)
 
 -- the size of a good node's settings
@@ -42,18 +42,19 @@ size-in-range n r = ranges (n .settings) (r .good .settings) .most-size
 returns : tie.Need-returns
 unfolding M.spread viewNode termsOf
 returns c =
-    let s = c .before .before .before .before in
+    let s = c .before .before .before in
     let n = s .args .self in
     let terms : Terms = termsOf (n .settings .«max_selected») (n .settings .«max_size») (limitOf (length (viewNode n .members .table)) (n .settings .«send_constant»)) in
-    let held : (eqb (n .disseminator .alive .len) 0 && eqb (n .disseminator .deceased .len) 0) ≡ true = sym (c .before .both .ensures) ∙ c .if1 .taken in
+    let held : (eqb (n .disseminator .alive .len) 0 && eqb (n .disseminator .deceased .len) 0) ≡ true = sym (c .before .before .none-held .ensures) ∙ c .before .if1 .taken in
     let none = and-split _ _ held in
-    (spread-none n (s .pre) terms (eqb-true _ 0 (none .0)) (eqb-true _ 0 (none .1)), omega arith)
+    let chosen = spread-none n (s .pre) terms (eqb-true _ 0 (none .0)) (eqb-true _ 0 (none .1)) in
+    ((λ i. record { node = n; rows = replicate 64 (c .none .ensures i); count = 0 }) ∙ chosen, omega arith)
 
 returns-2 : tie.Need-returns-2
 unfolding M.spread viewNode termsOf
 returns-2 c =
     let g = c .before .before .before in
-    let s = g .before .before .before .before .before .before .before .before .before .before .before .before in
+    let s = g .before .before .before .before .before .before .before .before .before .before in
     let n = s .args .self in
     let r = s .pre in
     let terms : ℕ → Terms = λ k. termsOf (n .settings .«max_selected») (n .settings .«max_size») (limitOf k (n .settings .«send_constant»)) in
@@ -67,4 +68,4 @@ returns-2 c =
     )
 
 pub spread-spec : {M : Type 1} → statement M
-spread-spec = tie.close (tie.spec (λ c κs. search needs) returns get-gossip-requires returns-2)
+spread-spec = tie.close (tie.spec (λ c κs. search needs) (λ c κs. search needs) returns get-gossip-requires returns-2)
