@@ -66,16 +66,16 @@ asPiece (stopped place) = piece.Stopped place
 asPiece (read p) = piece.Read p
 
 -- the first field of some bytes: what it says, and its size
-abbrev pub sized : Field → Read Piece → FirstRead
-sized f (stopped place) = first.Stopped place
-sized f (read p) = first.Read p (f .size)
+abbrev pub pieceSized : Field → Read Piece → FirstRead
+pieceSized f (stopped place) = first.Stopped place
+pieceSized f (read p) = first.Read p (f .size)
 
-abbrev pub firstIn : ℕ → List ℕ → Next → FirstRead
-firstIn place bytes Stopped = first.Stopped place
-firstIn place bytes (Found f) = sized f (pieceAt place bytes f)
+abbrev pub firstPieceIn : ℕ → List ℕ → Next → FirstRead
+firstPieceIn place bytes Stopped = first.Stopped place
+firstPieceIn place bytes (Found f) = pieceSized f (pieceAt place bytes f)
 
-unfoldable pub firstOf : ℕ → List ℕ → FirstRead
-firstOf place bytes = firstIn place bytes (nextIn bytes)
+unfoldable pub firstPiece : ℕ → List ℕ → FirstRead
+firstPiece place bytes = firstPieceIn place bytes (nextIn bytes)
 
 -- the same on a row of 65 places, of which the first 64 are kept, and a count that ends at 65
 abbrev pub unmovedOf : Small → Turn

@@ -33,11 +33,10 @@ use Rattle.actions.specs.declared.Piece.{Piece}
 use Rattle.actions.specs.declared.Piece.the-variants.{Unknown, From, Other, News}
 use Rattle.actions.specs.declared.PieceRead.{PieceRead}
 use Rattle.actions.specs.declared.PieceRead.the-variants as piece
-use Rattle.actions.specs.declared.FirstRead.{FirstRead}
 use Rattle.actions.specs.declared.FirstRead.the-variants as first
 use Rattle.actions.specs.declared.Turn.{Turn}
 use Rattle.actions.specs.declared.Acted.{Acted}
-use Rattle.actions.specs.Action.{Acting, pieceAt, put, actionStep, asPiece, sized, firstIn, firstOf, turnOf, Shows, Given, Acts}
+use Rattle.actions.specs.Action.{Acting, pieceAt, put, actionStep, asPiece, pieceSized, firstPieceIn, firstPiece, turnOf, Shows, Given, Acts}
 
 module _ (place : ℕ) (bytes : List ℕ) (f : Field) where
   module _ (h : f .number ≡ 1) where
@@ -186,27 +185,27 @@ size-at bytes rest at f e h q =
 
 -- the first field: none is whole, it stops, or it is read
 module _ (place : ℕ) (bytes : List ℕ) where
-  pub first-none : Stopped ≡ nextIn bytes → first.Stopped place ≡ firstOf place bytes
-  unfolding firstOf
-  first-none q = ap (firstIn place bytes) q
+  pub first-none : Stopped ≡ nextIn bytes → first.Stopped place ≡ firstPiece place bytes
+  unfolding firstPiece
+  first-none q = ap (firstPieceIn place bytes) q
 
-  pub first-some : (f : Field) (m : PieceRead) → Found f ≡ nextIn bytes → m ≡ asPiece (pieceAt place bytes f) → (p : ℕ) → m ≡ piece.Stopped p → first.Stopped p ≡ firstOf place bytes
-  unfolding firstOf
-  first-some f m q e p h = ap (sized f) (was-stopped (pieceAt place bytes f) m p e h) ∙ ap (firstIn place bytes) q
+  pub first-some : (f : Field) (m : PieceRead) → Found f ≡ nextIn bytes → m ≡ asPiece (pieceAt place bytes f) → (p : ℕ) → m ≡ piece.Stopped p → first.Stopped p ≡ firstPiece place bytes
+  unfolding firstPiece
+  first-some f m q e p h = ap (pieceSized f) (was-stopped (pieceAt place bytes f) m p e h) ∙ ap (firstPieceIn place bytes) q
 
-  pub first-whole : (f : Field) (m : PieceRead) → Found f ≡ nextIn bytes → m ≡ asPiece (pieceAt place bytes f) → (s : Piece) → m ≡ piece.Read s → first.Read s (f .size) ≡ firstOf place bytes
-  unfolding firstOf
-  first-whole f m q e s h = ap (sized f) (was-read (pieceAt place bytes f) m s e h) ∙ ap (firstIn place bytes) q
+  pub first-whole : (f : Field) (m : PieceRead) → Found f ≡ nextIn bytes → m ≡ asPiece (pieceAt place bytes f) → (s : Piece) → m ≡ piece.Read s → first.Read s (f .size) ≡ firstPiece place bytes
+  unfolding firstPiece
+  first-whole f m q e s h = ap (pieceSized f) (was-read (pieceAt place bytes f) m s e h) ∙ ap (firstPieceIn place bytes) q
 
-  sized-stop : (f : Field) (r : Read Piece) (p : ℕ) → first.Stopped p ≡ sized f r → stopped p ≡ r
+  sized-stop : (f : Field) (r : Read Piece) (p : ℕ) → first.Stopped p ≡ pieceSized f r → stopped p ≡ r
   sized-stop f (stopped q) p e = let z : p ≡ q = cc in ap stopped z
   sized-stop f (read s) p e = let z : _≡_ {A = ℕ} 0 1 = cc in absurd (omega arith)
 
-  sized-read : (f : Field) (r : Read Piece) (s : Piece) (n : ℕ) → first.Read s n ≡ sized f r → (read s ≡ r) × (n ≡ f .size)
+  sized-read : (f : Field) (r : Read Piece) (s : Piece) (n : ℕ) → first.Read s n ≡ pieceSized f r → (read s ≡ r) × (n ≡ f .size)
   sized-read f (stopped q) s n e = let z : _≡_ {A = ℕ} 0 1 = cc in absurd (omega arith)
   sized-read f (read t) s n e = let z : s ≡ t = cc in (ap read z, cc)
 
-  size-in : (v : Next) → v ≡ nextIn bytes → (s : Piece) (n : ℕ) → first.Read s n ≡ firstIn place bytes v → (1 ≤ n) × (n ≤ length bytes)
+  size-in : (v : Next) → v ≡ nextIn bytes → (s : Piece) (n : ℕ) → first.Read s n ≡ firstPieceIn place bytes v → (1 ≤ n) × (n ≤ length bytes)
   size-in Stopped q s n e = let z : _≡_ {A = ℕ} 0 1 = cc in absurd (omega arith)
   size-in (Found f) q s n e =
       let w = next-lies bytes f (sym q) in
@@ -214,30 +213,30 @@ module _ (place : ℕ) (bytes : List ℕ) where
       (omega (arith, w .some, w .begins, z .1), omega (arith, w .ends, z .1))
 
   -- it takes a byte at least, and none that isn't there
-  pub first-size : (s : Piece) (n : ℕ) → first.Read s n ≡ firstOf place bytes → (1 ≤ n) × (n ≤ length bytes)
-  unfolding firstOf
+  pub first-size : (s : Piece) (n : ℕ) → first.Read s n ≡ firstPiece place bytes → (1 ≤ n) × (n ≤ length bytes)
+  unfolding firstPiece
   first-size s n e = size-in (nextIn bytes) refl s n e
 
 -- what it does to a walk
 module _ (place : ℕ) (bytes : List ℕ) (a₀ : Acting) (at : ℕ) (a : Acting) (g : Going actionStep place bytes a₀ at a) (rest : List ℕ) (e : rest ≡ drop at bytes) (h : at < length bytes) where
-  stop-in : (v : Next) → v ≡ nextIn rest → (p : ℕ) → first.Stopped p ≡ firstIn (place + at) rest v → stopped p ≡ walk actionStep place bytes a₀
+  stop-in : (v : Next) → v ≡ nextIn rest → (p : ℕ) → first.Stopped p ≡ firstPieceIn (place + at) rest v → stopped p ≡ walk actionStep place bytes a₀
   stop-in Stopped q p r = let z : p ≡ place + at = cc in ap stopped z ∙ going-stop actionStep place bytes a₀ at a g rest e h q
   stop-in (Found f) q p r =
       going-refuse actionStep place bytes a₀ at a g rest e h f q p (step-stop a (place + at) rest f p (sized-stop (place + at) rest f (pieceAt (place + at) rest f) p r))
 
-  pub first-stop : (p : ℕ) → first.Stopped p ≡ firstOf (place + at) rest → stopped p ≡ walk actionStep place bytes a₀
-  unfolding firstOf
+  pub first-stop : (p : ℕ) → first.Stopped p ≡ firstPiece (place + at) rest → stopped p ≡ walk actionStep place bytes a₀
+  unfolding firstPiece
   first-stop p r = stop-in (nextIn rest) refl p r
 
-  read-in : (v : Next) → v ≡ nextIn rest → (s : Piece) (n : ℕ) → first.Read s n ≡ firstIn (place + at) rest v → Going actionStep place bytes a₀ (at + n) (put a s)
+  read-in : (v : Next) → v ≡ nextIn rest → (s : Piece) (n : ℕ) → first.Read s n ≡ firstPieceIn (place + at) rest v → Going actionStep place bytes a₀ (at + n) (put a s)
   read-in Stopped q s n r = let z : _≡_ {A = ℕ} 0 1 = cc in absurd (omega arith)
   read-in (Found f) q s n r =
       let z = sized-read (place + at) rest f (pieceAt (place + at) rest f) s n r in
       subst (λ (k : ℕ). Going actionStep place bytes a₀ (at + k) (put a s)) (sym (z .1))
       (going-more actionStep place bytes a₀ at a g rest e h f q (put a s) (step-read a (place + at) rest f s (z .0)))
 
-  pub first-read : (s : Piece) (n : ℕ) → first.Read s n ≡ firstOf (place + at) rest → Going actionStep place bytes a₀ (at + n) (put a s)
-  unfolding firstOf
+  pub first-read : (s : Piece) (n : ℕ) → first.Read s n ≡ firstPiece (place + at) rest → Going actionStep place bytes a₀ (at + n) (put a s)
+  unfolding firstPiece
   first-read s n r = read-in (nextIn rest) refl s n r
 
 -- a gossip's turn

@@ -13,7 +13,7 @@ ghost use lib.ListN.{length};
 ghost use Rattle.fields.specs.Walk.{walk};
 ghost use Rattle.fields.specs.FieldLaws.{Lies};
 ghost use Rattle.actions.specs.declared.Piece.the-variants.{News};
-ghost use Rattle.actions.specs.Action.{pieceAt, asPiece, firstOf, unmovedOf, turnOf, actionStep, Shows, Acts};
+ghost use Rattle.actions.specs.Action.{pieceAt, asPiece, firstPiece, unmovedOf, turnOf, actionStep, Shows, Acts};
 
 // What the fields of an action say so far, without its gossip: whether a gossip was spoiled, and how many there are, 65 for more than 64.
 pub struct Small {
@@ -95,7 +95,7 @@ fn field(bytes: &[u8], place: usize, f: Field) -> PieceRead
 // The field that some bytes begin with.
 fn first_piece(bytes: &[u8], place: usize) -> FirstRead
     requires { ⌜ place + length (now bytes) < 2 ^ 64 ⌝ }
-    ensures { λ r. ⌜ r ≡ firstOf place (now (bytes .entry)) ⌝ }
+    ensures { λ r. ⌜ r ≡ firstPiece place (now (bytes .entry)) ⌝ }
 {
     let Next::Found(f) = fields::first(bytes) else {
         return FirstRead::Stopped(place);

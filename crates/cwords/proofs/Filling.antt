@@ -10,10 +10,9 @@ use native.Mathlib.Numerals.{add-one}
 use lib.ListN.{length, getD, set, take, drop, replicate, length-map, length-set, length-take, drop-of-length-le}
 use lib.Seq.{take-all, take-take}
 use Rattle.model.specs.Rows.{padTo}
-use Rattle.laws.specs.Pad.{pad-step}
 
 -- after i of n turns the first i places are made of the first i of the other row, and the rest is as it was before
-pub record Laid {A B : Type 0} (f : A → B) (l : List A) (n : ℕ) (before : List B) (i : ℕ) (out : List B) : Type 0 where
+pub record Filled {A B : Type 0} (f : A → B) (l : List A) (n : ℕ) (before : List B) (i : ℕ) (out : List B) : Type 0 where
   pub few : i ≤ n
   pub long : length out ≡ length before
   pub made : out ≡ take i (map f l) ++ drop i before
@@ -37,13 +36,13 @@ map-at f (x ∷ l) (suc i) z d h = map-at f l i z d (le-of-suc-le-suc h)
 
 module _ {A B : Type 0} {f : A → B} {l : List A} {n : ℕ} {before : List B} where
   -- no turn yet
-  pub laid-none : Laid f l n before 0 before
-  laid-none = record { few = omega arith; long = refl; made = refl }
+  pub filled-none : Filled f l n before 0 before
+  filled-none = record { few = omega arith; long = refl; made = refl }
 
-  module _ {i : ℕ} {out : List B} (h : Laid f l n before i out) where
+  module _ {i : ℕ} {out : List B} (h : Filled f l n before i out) where
     -- one more turn
-    pub laid-next : (d : A) {v : B} → i < n → i < length l → i < length out → v ≡ f (getD l i d) → Laid f l n before (i + 1) (set out i v)
-    laid-next d {v} k g j e =
+    pub filled-next : (d : A) {v : B} → i < n → i < length l → i < length out → v ≡ f (getD l i d) → Filled f l n before (i + 1) (set out i v)
+    filled-next d {v} k g j e =
         record {
           few = omega arith;
           long = length-set out i v ∙ h .long;
@@ -54,12 +53,12 @@ module _ {A B : Type 0} {f : A → B} {l : List A} {n : ℕ} {before : List B} w
         }
 
     -- all turns: the first n places are made
-    pub laid-all : n ≤ i → out ≡ take n (map f l) ++ drop n before
-    laid-all k = let e : i ≡ n = omega (arith, h .few) in h .made ∙ ap (λ (t : ℕ). take t (map f l) ++ drop t before) e
+    pub filled-all : n ≤ i → out ≡ take n (map f l) ++ drop n before
+    filled-all k = let e : i ≡ n = omega (arith, h .few) in h .made ∙ ap (λ (t : ℕ). take t (map f l) ++ drop t before) e
 
     -- and where both rows have n places, that is all of them
-    pub filled : n ≤ i → length l ≡ n → length out ≡ n → out ≡ map f l
-    filled k g j =
+    pub filled-whole : n ≤ i → length l ≡ n → length out ≡ n → out ≡ map f l
+    filled-whole k g j =
         h .made
         ∙ (λ t. take-all i (map f l) (omega (arith, length-map l f)) t ++ drop-of-length-le before {i = i} (omega (arith, h .long)) t)
         ∙ append-nil (map f l)
@@ -74,7 +73,7 @@ module _ {A B : Type 0} {f : A → B} {l : List A} {n : ℕ} {before : List B} w
 
 -- the same, and what is made is read back
 pub record Backed {A B : Type 0} (f : A → B) (g : B → A) (l : List A) (n : ℕ) (before : List B) (i : ℕ) (out : List B) : Type 0 where
-  pub laid : Laid f l n before i out
+  pub filled : Filled f l n before i out
   pub back : map g (take i (map f l)) ≡ take i l
 
 abbrev first-or : {A : Type 0} → A → List A → A
@@ -93,13 +92,13 @@ back-next f g (suc i) d (x ∷ l) h e p = λ j. ap (first-or x) p j ∷ back-nex
 
 module _ {A B : Type 0} {f : A → B} {g : B → A} {l : List A} {n : ℕ} {before : List B} where
   pub backed-none : Backed f g l n before 0 before
-  backed-none = record { laid = laid-none; back = refl }
+  backed-none = record { filled = filled-none; back = refl }
 
   module _ {i : ℕ} {out : List B} (h : Backed f g l n before i out) where
     pub backed-next : (d : A) {v : B} → i < n → i < length l → i < length out → (v ≡ f (getD l i d)) × (g v ≡ getD l i d) → Backed f g l n before (i + 1) (set out i v)
     backed-next d k m j e =
         record {
-          laid = laid-next (h .laid) d k m j (e .0);
+          filled = filled-next (h .filled) d k m j (e .0);
           back =
               ap (λ (t : ℕ). map g (take t (map f l))) (add-one i)
               ∙ back-next f g i d l m (ap g (sym (e .0)) ∙ e .1) (h .back)
@@ -108,29 +107,10 @@ module _ {A B : Type 0} {f : A → B} {g : B → A} {l : List A} {n : ℕ} {befo
 
     pub filled-back : n ≤ i → length l ≡ n → length out ≡ n → (out ≡ map f l) × (map g out ≡ l)
     filled-back k m j =
-        let e = filled (h .laid) k m j in (
+        let e = filled-whole (h .filled) k m j in (
           e,
           ap (map g) e
               ∙ ap (map g) (sym (take-all i (map f l) (omega (arith, length-map l f))))
               ∙ h .back
               ∙ take-all i l (omega arith),
         )
-
--- a row of n that was all z, for loops whose invariant says so
-module _ {A B : Type 0} (f : A → B) where
-  -- one more place
-  pub fill-next : (n i : ℕ) (z : B) (d : A) (l : List A) (v : B) (out : List B) → i < length l → length l ≤ n → v ≡ f (getD l i d) → out ≡ padTo n z (take i (map f l))
-      → set out i v ≡ padTo n z (take (i + 1) (map f l))
-  fill-next n i z d l v out h k e o =
-      ap (λ (r : List B). set r i v) o
-      ∙ pad-step n i z v (map f l) (omega (arith, length-map l f)) (omega (arith, length-map l f)) (map-at f l i z d h ∙ sym e)
-      ∙ ap (λ (j : ℕ). padTo n z (take j (map f l))) (sym (add-one i))
-
-  -- all places
-  pub fill-all : (n i : ℕ) (z : B) (l : List A) (out : List B) → length l ≡ n → n ≤ i → out ≡ padTo n z (take i (map f l)) → out ≡ map f l
-  fill-all n i z l out e h o =
-      let k : n - length (map f l) ≡ 0 = omega (arith, length-map l f) in
-      o
-      ∙ ap (padTo n z) (take-all i (map f l) (omega (arith, length-map l f)))
-      ∙ ap (λ (j : ℕ). map f l ++ replicate j z) k
-      ∙ append-nil (map f l)

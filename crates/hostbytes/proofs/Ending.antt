@@ -2,7 +2,7 @@
 -- Assumes nothing.
 use mathlib.Core.Path.{_≡_, refl, ap, sym, _∙_, subst}
 use mathlib.Core.List.{List, [], _∷_, _++_, map}
-use Prim.Native.Nat.{ℕ, _+_, _*_, _<_}
+use Prim.Native.Nat.{ℕ, _+_, _*_}
 use lib.ListN.{length, take, drop, length-map}
 use Rattle.model.specs.declared.Refusal.{Refusal}
 use Rattle.model.specs.declared.Settings.{Settings}
@@ -32,7 +32,7 @@ use Rattle.outgoing.specs.Outgoing.{Sends}
 use Rattle.outgoing.specs.Sending.{sends-bare}
 use Rattle.datagram.specs.Contracts as datagram
 use Rattle.datagram.specs.Laws.{writes-sent}
-use Rattle.cwords.specs.Reading.{Rows, settingsOf, gossipOf, actionOf, waitOf, nodeOf}
+use Rattle.cwords.specs.Reading.{Rows, settingsOf, gossipOf, actionOf, waitOf}
 use Rattle.cwords.specs.Writing.{gossipWords, actionWords, waitWords, codeOf}
 use Rattle.cwords.specs.Back.{Puts}
 use Rattle.cwords.specs.Leaving.{kept-not, kept-so, stays, goes}

@@ -298,11 +298,11 @@ module _ (a : Action) (gs : List Gossip) where
 
     module _ (m : ℕ) (g : m ≡ rest) (r : Writing) (row′ : List ℕ)
         (w : (r ≡ headedOf (headOf a m) m row) × (row′ ≡ rowAfter (headedOf (headOf a m) m row) (headOf a m) row)) where
-      q : r ≡ headedOf (headOf a rest) rest row
-      q = w .0 ∙ ap (λ (x : ℕ). headedOf (headOf a x) x row) g
+      head-answers : r ≡ headedOf (headOf a rest) rest row
+      head-answers = w .0 ∙ ap (λ (x : ℕ). headedOf (headOf a x) x row) g
 
-      k : row′ ≡ rowAfter (headedOf (headOf a rest) rest row) (headOf a rest) row
-      k = w .1 ∙ ap (λ (x : ℕ). rowAfter (headedOf (headOf a x) x row) (headOf a x) row) g
+      head-stands : row′ ≡ rowAfter (headedOf (headOf a rest) rest row) (headOf a rest) row
+      head-stands = w .1 ∙ ap (λ (x : ℕ). rowAfter (headedOf (headOf a x) x row) (headOf a x) row) g
 
       pub head-refused : (x : Refusal) → r ≡ Refused x
           → (Refused x ≡ writtenOf (encode a gs) row) × (row′ ≡ rowAfter (writtenOf (encode a gs) row) (encode a gs) row)
@@ -310,12 +310,12 @@ module _ (a : Action) (gs : List Gossip) where
       head-refused x e =
           (elim cut as (λ u. cut ≡ u → (Refused x ≡ writtenOf (encode a gs) row) × (row′ ≡ rowAfter (writtenOf (encode a gs) row) (encode a gs) row)) [
             | true ↦ λ t. (
-              sym e ∙ q ∙ head-by true t ∙ sym (all-by true t),
-              k
+              sym e ∙ head-answers ∙ head-by true t ∙ sym (all-by true t),
+              head-stands
                   ∙ ap (λ (w : Writing). rowAfter w (headOf a rest) row) (head-by true t)
                   ∙ sym (ap (λ (w : Writing). rowAfter w (encode a gs) row) (all-by true t)),
             )
-            | false ↦ λ t. absurd (subst NothingWritten (sym e ∙ q ∙ head-by false t) tt)
+            | false ↦ λ t. absurd (subst NothingWritten (sym e ∙ head-answers ∙ head-by false t) tt)
           ]) refl
 
       module _ (at : ℕ) (e : r ≡ Whole at) where
@@ -323,7 +323,7 @@ module _ (a : Action) (gs : List Gossip) where
         unfolding NothingWritten
         fits =
             (elim cut as (λ u. cut ≡ u → length (headOf a rest) + rest ≤ length row) [
-              | true ↦ λ t. absurd (subst NothingWritten (sym (sym e ∙ q ∙ head-by true t)) tt)
+              | true ↦ λ t. absurd (subst NothingWritten (sym (sym e ∙ head-answers ∙ head-by true t)) tt)
               | false ↦ λ t. ltb-false (length row) (length (headOf a rest) + rest) t
             ]) refl
 
@@ -332,13 +332,13 @@ module _ (a : Action) (gs : List Gossip) where
 
         ends : at ≡ length (headOf a rest)
         unfolding placeOf
-        ends = ap placeOf (sym e ∙ q ∙ head-by false cut-not)
+        ends = ap placeOf (sym e ∙ head-answers ∙ head-by false cut-not)
 
         pub head-laid : Laid row 0 (headOf a rest) row′ at
         unfolding rowAfter
         head-laid =
             let y : row′ ≡ headOf a rest ++ drop (length (headOf a rest)) row =
-            k ∙ ap (λ (w : Writing). rowAfter w (headOf a rest) row) (head-by false cut-not) in
+            head-stands ∙ ap (λ (w : Writing). rowAfter w (headOf a rest) row) (head-by false cut-not) in
             let z : sets row 0 (headOf a rest) ≡ headOf a rest ++ drop (length (headOf a rest)) row =
             laid-first {row = row} {bytes = headOf a rest} {next = 0 + length (headOf a rest)} (omega (arith, fits)) (record { ends = refl; long = length-sets row 0 (headOf a rest); says = refl }) in
             record { ends = omega (arith, ends); long = ap (λ (l : List ℕ). length l) (y ∙ sym z) ∙ length-sets row 0 (headOf a rest); says = y ∙ sym z }

@@ -1,7 +1,7 @@
 -- A COUNT OVER 64. Restore refuses it by 16 where the image's length is as the count says, and by 15 where it isn't, too short for a count included; salvage reads 64 places and tells the count.
 -- Assumes nothing.
 use mathlib.Core.Path.{_≡_, refl, ap, sym, _∙_}
-use mathlib.Core.Bool.{Bool, true, false, not, _&&_}
+use mathlib.Core.Bool.{Bool, true, false, not, _&&_, and-false}
 use mathlib.Core.List.{List, _∷_}
 use Prim.Native.Nat.{ℕ, _+_, _*_, _≤_, _<_}
 use native.Mathlib.Omega.{arith}
@@ -36,10 +36,6 @@ widths = (refl, refl, refl, refl)
 -- a head, as many places as the count says, and one byte of position
 abbrev pub AsItSays : Form Addr → List ℕ → Type 0
 AsItSays f bytes = length bytes ≡ head f .width + (counted f bytes * entry f .width + 1)
-
-and-false : (u : Bool) → (u && false) ≡ false
-and-false true = refl
-and-false false = refl
 
 six-false : (a b c d e g : Bool) → a ≡ false → (a && b && c && d && e && g) ≡ false
 six-false a b c d e g h = rw h refl

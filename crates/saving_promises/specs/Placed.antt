@@ -18,7 +18,7 @@ use Rattle.model.specs.Calls.{firstOf}
 use Rattle.address.specs.Here.{Addr, here}
 use Rattle.numbers.specs.Numbers.{numberOf}
 use Rattle.numbers.specs.Codec.{many-count, many-at}
-use Rattle.image.specs.Image.{Form, Entry, head, entry, stateOf, memberOf, entriesIn, counted, fields}
+use Rattle.image.specs.Image.{Form, head, entry, stateOf, memberOf, entriesIn, counted, fields}
 use Rattle.image.specs.Forms.{formIn, saidBy}
 use Rattle.image.specs.Versions.{v1, v2, versions}
 use Rattle.saving.specs.Views.{restoredOf}
@@ -110,7 +110,6 @@ module _ (bytes : List ℕ) (settings : Settings) (tick : ℕ) (s : Restored) (t
   stands : (i : ℕ) → i < counted f bytes → getD rows i (W.noMember here) ≡ recordAt f bytes i
   unfolding fields
   stands i h =
-      let e : Entry Addr = entry f .get bytes in
       map-at memberOf (entriesIn (fields f bytes)) i (W.noMember here) (entry f .get bytes) (omega (arith, h, many-count (entry f) (counted f bytes) (drop (head f .width) bytes)))
       ∙ ap memberOf (many-at (entry f) (counted f bytes) (drop (head f .width) bytes) i (entry f .get bytes) h ∙ ap (entry f .get) (drop-drop (i * entry f .width) (head f .width) bytes))
 

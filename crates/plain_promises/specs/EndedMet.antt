@@ -26,7 +26,7 @@ use Rattle.node.specs.declared.Node.{Node}
 use Rattle.node.specs.Views.{storedView, unstored, answerOf}
 use Rattle.swim.specs.declared.Outcome.{Outcome}
 use Rattle.swim.specs.Contracts.{outcomeOf, rowAfter, timerOf}
-use Rattle.lookup_promises.specs.Ended.{TookNobodyOut, refuted-takes-nobody, gone-takes-nobody}
+use Rattle.plain_promises.specs.Ended.{TookNobodyOut, refuted-takes-nobody, gone-takes-nobody}
 
 -- 10.0.0.h:7000
 abbrev pub host : ℕ → Addr

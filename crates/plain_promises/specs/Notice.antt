@@ -50,7 +50,8 @@ module _ (a : Addr) where
   abbrev Low : ℕ → Answer (M.Out Addr) → Type 0
   Low n x = After (λ (o : M.Out Addr). reported here a (o .said) ≤ n) x
 
-  itself : (n : ℕ) → pick (here .same a a) n 0 ≡ n
+  -- an address is itself
+  pub itself : (n : ℕ) → pick (here .same a a) n 0 ≡ n
   itself n = rw (here-lawful .test .same-refl a) refl
 
   buried : (n : ℕ) (u v : Bool) (s : M.Node Addr) (ds : List ℕ) → Low n (handler.act here (pick u (pick v (handler.Bury a n) handler.Low) handler.Unknown) s ds)

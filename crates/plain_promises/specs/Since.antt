@@ -32,7 +32,7 @@ use Rattle.wait.specs.declared.Wait.{Wait}
 use Rattle.promises.specs.Begun.{Begun, begun-gave}
 use Rattle.promises.specs.Runs.{Runs, world}
 use Rattle.promises.specs.Demand3.{ledger, replayed}
-use Rattle.lookup_promises.specs.Notice.{notice-reports}
+use Rattle.plain_promises.specs.Notice.{itself, notice-reports}
 
 -- an event about an address at a number, whichever kind it is
 pub data Says (a : Addr) (k : ℕ) : W.Event Addr → Type 0 where
@@ -73,14 +73,11 @@ module _ (a : Addr) where
     pub left : Left here a m
 
   -- ---- the ledger that proves it
-  itself : (n : ℕ) → pick (here .same a a) n 0 ≡ n
-  itself n = rw (here-lawful .test .same-refl a) refl
-
   about-is : (k : ℕ) (e : W.Event Addr) → Says a k e → about here a e ≡ k
-  about-is k _ (joined from) = itself k
-  about-is k _ (recovered from) = itself k
-  about-is k _ (suspected from) = itself k
-  about-is k _ (deceased from) = itself k
+  about-is k _ (joined from) = itself a k
+  about-is k _ (recovered from) = itself a k
+  about-is k _ (suspected from) = itself a k
+  about-is k _ (deceased from) = itself a k
 
   reported-at : (k : ℕ) (gs : List (W.Gossip Addr)) (i : ℕ) (g : W.Gossip Addr) → At gs i g → Says a k (g .event) → k ≤ reported here a gs
   reported-at k (x ∷ gs) zero g p s = let e : about here a (x .event) ≡ k = ap (λ (y : W.Gossip Addr). about here a (y .event)) p ∙ about-is k (g .event) s in omega (arith, e)

@@ -2,7 +2,7 @@
 -- Assumes nothing.
 use mathlib.Core.Path.{_≡_, refl, ap, sym, _∙_, subst}
 use mathlib.Core.Logic.{_↔_}
-use mathlib.Core.Bool.{Bool, true, false}
+use mathlib.Core.Bool.{Bool, true, false, false≢true}
 use mathlib.Core.List.{List, [], _∷_}
 use Prim.Native.Nat.{ℕ, zero, suc, _-_, _/_, _^_, _≤_, _<_}
 use native.Mathlib.Omega.{arith}
@@ -68,6 +68,7 @@ pub record NodeFits (s : M.Node Addr) : Type 0 where
   pub deceased : HeapFits kind.Deceased (s .disseminator .deceased)
   pub few : length (s .timers) ≤ 16
   pub timers : (i : ℕ) (t : W.Timer Addr) → At (s .timers) i t → here .valid (t .addr) ≡ true
+  -- at most 128 that left, each once and in range
   pub departed : GoodDeparted here (s .departed)
 
 -- the rows hold such a node, and nothing else: every place that isn't in use is zero, and the three counts are those of the list
@@ -147,20 +148,17 @@ in-range c f =
     (le-leb _ _ (f .most))
 
 -- ---- the heaps
-false-is : {B : Type 0} → false ≡ true → B
-false-is e = let z : _≡_ {A = ℕ} 0 1 = cc in absurd (omega arith)
-
 held-in : (k : Kind) (e : W.Event Addr) → ofKind k (W.partsOf here e .kind) ≡ true → validGossip here (record { event = e }) ≡ true → HeldIn k e
 unfolding W.partsOf validGossip
-held-in kind.Alive W.Nothing p q = false-is p
+held-in kind.Alive W.Nothing p q = absurd (false≢true p)
 held-in kind.Alive (W.Joined f a n) p q = let v = and-split (here .valid f) (here .valid a) q in joined f a n (v .0) (v .1)
 held-in kind.Alive (W.Recovered f a n) p q = let v = and-split (here .valid f) (here .valid a) q in recovered f a n (v .0) (v .1)
 held-in kind.Alive (W.Suspected f a n) p q = let v = and-split (here .valid f) (here .valid a) q in suspected f a n (v .0) (v .1)
-held-in kind.Alive (W.Deceased f a n) p q = false-is p
-held-in kind.Deceased W.Nothing p q = false-is p
-held-in kind.Deceased (W.Joined f a n) p q = false-is p
-held-in kind.Deceased (W.Recovered f a n) p q = false-is p
-held-in kind.Deceased (W.Suspected f a n) p q = false-is p
+held-in kind.Alive (W.Deceased f a n) p q = absurd (false≢true p)
+held-in kind.Deceased W.Nothing p q = absurd (false≢true p)
+held-in kind.Deceased (W.Joined f a n) p q = absurd (false≢true p)
+held-in kind.Deceased (W.Recovered f a n) p q = absurd (false≢true p)
+held-in kind.Deceased (W.Suspected f a n) p q = absurd (false≢true p)
 held-in kind.Deceased (W.Deceased f a n) p q = let v = and-split (here .valid f) (here .valid a) q in deceased f a n (v .0) (v .1)
 
 is-held : (k : Kind) (e : W.Event Addr) → HeldIn k e → (ofKind k (W.partsOf here e .kind) ≡ true) × (validGossip here (record { event = e }) ≡ true)
@@ -244,7 +242,7 @@ sound-plainly s full = (
 
 -- refusal 2 is given where it fails
 pub unsound-plainly : (s : M.Stored Addr) → FullRows s → (sound here s ≡ false) ↔ (RowsFit s → ⊥)
-unsound-plainly s full = ((λ e f. false-is (sym e ∙ sound-plainly s full .1 f)), (λ h. by (sound here s) refl h))
+unsound-plainly s full = ((λ e f. absurd (false≢true (sym e ∙ sound-plainly s full .1 f))), (λ h. by (sound here s) refl h))
   where
     by : (u : Bool) → sound here s ≡ u → (RowsFit s → ⊥) → u ≡ false
     by true e h = absurd (h (sound-plainly s full .0 e))

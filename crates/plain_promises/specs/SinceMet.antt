@@ -36,8 +36,8 @@ use Rattle.node.specs.Views.{storedView, unstored, createdOf}
 use Rattle.wait.specs.Views.{freshWait}
 use Rattle.promises.specs.Begun.{Begun, created}
 use Rattle.promises.specs.Runs.{rests}
-use Rattle.lookup_promises.specs.Since.{joined, deceased, Reports, NoEntry, next, no-lower-since}
-use Rattle.lookup_promises.specs.EndedMet.{host, settings}
+use Rattle.plain_promises.specs.Since.{joined, deceased, Reports, NoEntry, next, no-lower-since}
+use Rattle.plain_promises.specs.EndedMet.{host, settings}
 
 abbrev pub own : Addr
 own = host 1

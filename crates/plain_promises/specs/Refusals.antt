@@ -3,7 +3,7 @@
 -- Assumes nothing.
 use mathlib.Core.Path.{_≡_, refl, ap, sym, _∙_}
 use mathlib.Core.Logic.{_⊎_, _↔_, inl, inr}
-use mathlib.Core.Bool.{Bool, true, false, not, _&&_, _||_}
+use mathlib.Core.Bool.{Bool, true, false, not, _&&_, _||_, and-assoc, and-true, or-true}
 use mathlib.Core.List.{List, [], _∷_, _++_, map}
 use mathlib.Core.Option.{none, some}
 use Prim.Native.Nat.{ℕ, _^_, _≤_, _<_}
@@ -32,7 +32,9 @@ use Rattle.wait.specs.Views.{toWait}
 use Rattle.swim.specs.declared.Outcome.{Outcome}
 use Rattle.swim.specs.Contracts.{Adds, Receives, Steps, EndsTimer}
 use Rattle.promises.specs.Firsts.{FirstFails, fails, passes, Among, first-among}
+use Rattle.laws_node.specs.Good.{FullRows}
 use Rattle.promises.specs.Exactly.{add-exactly, receive-exactly, step-exactly, end-timer-exactly}
+use Rattle.plain_promises.specs.SoundNode.{RowsFit, unsound-plainly}
 
 -- the addresses of a message: those of its action, and both of each record that holds an event
 abbrev pub ofAction : W.Action Addr → List Addr
@@ -84,14 +86,6 @@ abbrev pub Enough : ℕ → ℕ → List Gossip → List Gossip → Type 0
 Enough g e gossip events = (g ≤ length gossip) × (e ≤ length events)
 
 -- ---- the rules' tests in these words
-and-assoc : (x y z : Bool) → ((x && y) && z) ≡ (x && (y && z))
-and-assoc true y z = refl
-and-assoc false y z = refl
-
-and-true : (x : Bool) → (x && true) ≡ x
-and-true true = refl
-and-true false = refl
-
 range-append : (l m : List Addr) → allInRange (l ++ m) ≡ (allInRange l && allInRange m)
 range-append [] m = refl
 range-append (a ∷ l) m = ap (λ (u : Bool). here .valid a && u) (range-append l m) ∙ sym (and-assoc (here .valid a) (allInRange l) (allInRange m))
@@ -172,13 +166,9 @@ short-is x g y e = (only (ltb x g) (ltb y e) (ltb-true x g) (ltb-true y e), if)
     only true v p q h = inl (p refl)
     only false v p q h = inr (q h)
 
-    right : (u : Bool) → (u || true) ≡ true
-    right true = refl
-    right false = refl
-
     if : (x < g) ⊎ (y < e) → (ltb x g || ltb y e) ≡ true
     if (inl h) = rw (lt-ltb x g h) refl
-    if (inr h) = rw (lt-ltb y e h) (right (ltb x g))
+    if (inr h) = rw (lt-ltb y e h) (or-true (ltb x g))
 
 enough-is : (x g y e : ℕ) → ((ltb x g || ltb y e) ≡ false) ↔ ((g ≤ x) × (e ≤ y))
 enough-is x g y e = (only (ltb x g) (ltb y e) (ltb-false x g) (ltb-false y e), (λ h. rw (le-ltb x g (h .0)) (le-ltb y e (h .1))))
@@ -198,6 +188,10 @@ module _ (node : Node) (a : Addr) (number : ℕ) (draws : List ℕ) (r : Answer)
   pub add-2 : (replyNumber (r .reply) ≡ 2) ↔ (sound here (storedView node) ≡ false)
   add-2 = then (add-exactly Unsound (omega arith) node a number draws r met) (then (first-is (unlike refl, tt)) (unsound _))
 
+  -- and what sound means, in numbers and comparisons, of a node whose rows are as long as their arrays
+  pub add-2-plainly : FullRows (storedView node) → (replyNumber (r .reply) ≡ 2) ↔ (RowsFit (storedView node) → ⊥)
+  add-2-plainly full = then add-2 (unsound-plainly (storedView node) full)
+
   pub add-5 : (replyNumber (r .reply) ≡ 5) ↔ ((sound here (storedView node) ≡ true) × (here .valid a ≡ false))
   add-5 =
       then (add-exactly AddressRange (omega arith) node a number draws r met)
@@ -212,6 +206,10 @@ module _ (node : Node) (action : Action) (rows : List Gossip) (draws : List ℕ)
   receive-2 =
       then (receive-exactly Unsound (omega arith) node action rows draws gossip events r g e met)
       (then (first-is (unlike refl, (unlike refl, (unlike refl, tt)))) (unsound _))
+
+  -- and what sound means, in numbers and comparisons, of a node whose rows are as long as their arrays
+  pub receive-2-plainly : FullRows (storedView node) → (replyNumber (r .answer .reply) ≡ 2) ↔ (RowsFit (storedView node) → ⊥)
+  receive-2-plainly full = then receive-2 (unsound-plainly (storedView node) full)
 
   pub receive-3 : (replyNumber (r .answer .reply) ≡ 3) ↔ ((sound here (storedView node) ≡ true) × Short 64 65 gossip events)
   receive-3 =
@@ -239,6 +237,10 @@ module _ (node : Node) (wait : Wait) (tick : ℕ) (draws : List ℕ) (gossip eve
       then (step-exactly Unsound (omega arith) node wait tick draws gossip events r w g e met)
       (then (first-is (unlike refl, (unlike refl, tt))) (unsound _))
 
+  -- and what sound means, in numbers and comparisons, of a node whose rows are as long as their arrays
+  pub step-2-plainly : FullRows (storedView node) → (replyNumber (r .answer .reply) ≡ 2) ↔ (RowsFit (storedView node) → ⊥)
+  step-2-plainly full = then step-2 (unsound-plainly (storedView node) full)
+
   pub step-3 : (replyNumber (r .answer .reply) ≡ 3) ↔ ((sound here (storedView node) ≡ true) × Short 256 1 gossip events)
   step-3 =
       then (step-exactly ShortRow (omega arith) node wait tick draws gossip events r w g e met)
@@ -254,6 +256,10 @@ module _ (node : Node) (wait : Wait) (tick : ℕ) (draws : List ℕ) (gossip eve
 module _ (node : Node) (tick : ℕ) (events : List Gossip) (r : Outcome) (e : List Gossip) (met : EndsTimer node tick events r e) where
   pub timer-2 : (replyNumber (r .answer .reply) ≡ 2) ↔ (sound here (storedView node) ≡ false)
   timer-2 = then (end-timer-exactly Unsound (omega arith) node tick events r e met) (then (first-is (unlike refl, tt)) (unsound _))
+
+  -- and what sound means, in numbers and comparisons, of a node whose rows are as long as their arrays
+  pub timer-2-plainly : FullRows (storedView node) → (replyNumber (r .answer .reply) ≡ 2) ↔ (RowsFit (storedView node) → ⊥)
+  timer-2-plainly full = then timer-2 (unsound-plainly (storedView node) full)
 
   pub timer-3 : (replyNumber (r .answer .reply) ≡ 3) ↔ ((sound here (storedView node) ≡ true) × (length events < 1))
   timer-3 =
