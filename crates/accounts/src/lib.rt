@@ -1,4 +1,6 @@
 // What a call did to the list: each entry and each departure with its cause, read off the nodes before and after each rule.
+#![tactic(auto)]
+
 ghost use Rattle.std.specs.Prelude.{◌≡◌, true, [], ◌<◌, length};
 ghost use Rattle.address.specs.Here.{here};
 ghost use Rattle.model.specs.Calls as calls;
@@ -27,7 +29,7 @@ use timers::Ending;
 use types::{Action, Gossip, Optional};
 
 // What a rule did to the address that it was asked about.
-#[derive(Drop)]
+#[derive(Clone, Copy)]
 pub struct Change {
     pub address: Address,
     // The number that the rule was asked with: a record's, a timer's, an added peer's; 0 of a sender.
@@ -80,7 +82,7 @@ fn change_between(before: Members, after: Members, whom: Address, given: u64) ->
 }
 
 // The changes of a call, each at its place: record k of a message at place k, a Ping's sender behind the records.
-#[derive(Drop)]
+#[derive(Clone, Copy)]
 pub struct Account {
     pub changes: [Change; Account::PLACES],
     pub count: usize,
@@ -115,7 +117,7 @@ impl Account {
 }
 
 // One rule of a message, run by itself: the node that it leaves, what it did, and the draws that it used.
-#[derive(Drop)]
+#[derive(Clone, Copy)]
 pub struct Turn {
     pub node: Node,
     pub change: Change,
@@ -163,7 +165,7 @@ fn run_rule(node: Node, lent: Lent, whom: Address, given: u64, draws: &[u64]) ->
 }
 
 // The records of a message, one after the other: the node and the draws used behind them, and what each did. Stopped by a refusal, what those before it did.
-#[derive(Drop)]
+#[derive(Clone, Copy)]
 pub struct Walk {
     pub node: Node,
     pub used: usize,
@@ -286,7 +288,7 @@ fn has_places(rows: [Gossip; 64])
 {}
 
 // What a message call gives, and what each of its rules did.
-#[derive(Drop)]
+#[derive(Clone, Copy)]
 pub struct MessageAudit {
     pub received: Received,
     pub account: Account,
@@ -331,7 +333,7 @@ fn one_change(before: Node, after: Node, whom: Address, given: u64) -> Account
 }
 
 // What adding a peer gives, and what it did.
-#[derive(Drop)]
+#[derive(Clone, Copy)]
 pub struct AddAudit {
     pub answer: Answer,
     pub account: Account,
@@ -358,7 +360,7 @@ pub fn add_peer(node: Node, a: Address, number: u64, draws: &[u64]) -> AddAudit
 }
 
 // What a timer call gives, and what it did.
-#[derive(Drop)]
+#[derive(Clone, Copy)]
 pub struct TimerAudit {
     pub ended: Ended,
     pub account: Account,

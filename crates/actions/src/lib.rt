@@ -1,4 +1,6 @@
 // The message of an action: from = 1, the other address = 2, gossip = 3. All three actions have these fields.
+#![tactic(auto)]
+
 ghost use Rattle.std.specs.Prelude.{◌≡◌, ◌+◌, ◌^◌, ◌≤◌, ◌<◌, min, length};
 ghost use Rattle.fields.specs.Walk.{walk};
 ghost use Rattle.fields.specs.FieldLaws.{Lies};
@@ -12,7 +14,7 @@ use iptext::Text;
 use types::{Event, Gossip};
 
 // What the fields of an action say so far, without its gossip: whether a gossip was spoiled, and how many there are, 65 for more than 64.
-#[derive(Drop)]
+#[derive(Clone, Copy)]
 pub struct Small {
     pub from: Text,
     pub other: Text,
@@ -21,7 +23,7 @@ pub struct Small {
 }
 
 // What one field says.
-#[derive(Drop)]
+#[derive(Clone, Copy)]
 pub enum Piece {
     Unknown,
     From(Text),
@@ -30,21 +32,21 @@ pub enum Piece {
 }
 
 // Where reading stopped, or what was read.
-#[derive(Drop)]
+#[derive(Clone, Copy)]
 pub enum PieceRead {
     Stopped(usize),
     Read(Piece),
 }
 
 // Where reading stopped, or what the first field says and how many bytes it takes.
-#[derive(Drop)]
+#[derive(Clone, Copy)]
 pub enum FirstRead {
     Stopped(usize),
     Read(Piece, usize),
 }
 
 // What a field does: the fields so far, and a gossip for a place of the row. Place 64 takes what is not kept.
-#[derive(Drop)]
+#[derive(Clone, Copy)]
 pub struct Turn {
     pub small: Small,
     pub slot: usize,
@@ -52,7 +54,7 @@ pub struct Turn {
 }
 
 // Where reading stopped, or what was read, with the row of gossip.
-#[derive(Drop)]
+#[derive(Clone, Copy)]
 pub struct Acted {
     pub stopped: bool,
     pub place: usize,

@@ -1,4 +1,6 @@
 // An address: a family, 128 bits as two numbers, and a port. Beside this crate only its texts, its saved bytes and its words look inside one.
+#![tactic(auto)]
+
 ghost use Rattle.std.specs.Prelude.{◌≡◌, ◌≤◌, ◌<◌};
 ghost use Rattle.address.specs.IPv4.{digits as digits_of, text_length};
 ghost use Rattle.address.specs.Families.{number as number_of, numbered};
@@ -7,7 +9,7 @@ ghost use Rattle.address.specs.Here.{here, here_slot, here_drawer};
 use model::both;
 
 // Of IPv6, or of IPv4, whose 32 bits stand in `low`.
-#[derive(Drop)]
+#[derive(Clone, Copy)]
 pub struct Address {
     pub family: u8,
     pub port: u16,

@@ -1,4 +1,6 @@
 // A line's command, called and answered.
+#![tactic(auto)]
+
 use address::Address;
 use keeper::{Host, is_refused, lend_rows, lend_wait, rows_for};
 use model::{Reply, Settings};

@@ -1,4 +1,6 @@
 // What a host calls for bytes: a datagram read into a lent row of gossip records, and written into a lent row of bytes.
+#![tactic(auto)]
+
 ghost use Rattle.std.specs.Prelude.{◌≡◌};
 ghost use Rattle.datagram.specs.Contracts.{Reads, Writes};
 

@@ -1,4 +1,6 @@
 // The departed: a row of 128 places beside the list, the oldest last removal first. And D, by that row and the deceased heap.
+#![tactic(auto)]
+
 pub mod sound;
 
 ghost use Rattle.std.specs.Prelude.{◌≡◌, [], ◌∷◌, ◌++◌, map, ◌≤◌, ◌<◌, max, take};
@@ -17,14 +19,14 @@ use heap::Heap;
 use member::{Members, greater};
 
 // A departed address, and the greatest number seen at its removals.
-#[derive(Drop)]
+#[derive(Clone, Copy)]
 pub struct Departed {
     pub addr: Address,
     pub number: u64,
 }
 
 // The first `len` places are used; every place behind them is zero.
-#[derive(Drop)]
+#[derive(Clone, Copy)]
 pub struct DepartedRow {
     pub entries: [Departed; DepartedRow::CAPACITY],
     pub len: usize,

@@ -1,4 +1,6 @@
 // The failure detector: a step in each of its five states.
+#![tactic(auto)]
+
 pub mod declaring;
 pub mod waiting;
 
@@ -42,7 +44,7 @@ fn wait_of(settings: Settings, state: WaitState) -> u32
 }
 
 // What the tests before a step say: is it due, and what it answers where it is not.
-#[derive(Drop)]
+#[derive(Clone, Copy)]
 pub struct Tested {
     pub due: bool,
     pub reply: Reply,

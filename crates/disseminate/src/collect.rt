@@ -106,7 +106,7 @@ pub fn clear(alive: Heap, old: usize, kind: Kind, g: Gossip) -> Heap
 }
 
 // The alive heap that a gossip was pushed to, and how many held events were collected for it.
-#[derive(Drop)]
+#[derive(Clone, Copy)]
 pub struct Renewed {
     pub grown: Grown,
     pub collected: usize,

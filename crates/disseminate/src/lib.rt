@@ -1,4 +1,6 @@
 // What goes out with a message: gossip from two heaps, one of the living and one of the dead.
+#![tactic(auto)]
+
 pub mod collect;
 
 ghost use Rattle.std.specs.Prelude.{◌≡◌, Bool, true, false, ◌&&◌, ◌||◌, ℕ, ◌+◌, ◌≤◌, ◌<◌, eqb, leb, ltb};
@@ -46,14 +48,14 @@ pub fn of_kind(kind: Kind, alive: usize, deceased: usize) -> usize
 }
 
 // What a node spreads: what is known of the living, and deaths.
-#[derive(Drop)]
+#[derive(Clone, Copy)]
 pub struct Disseminator {
     pub alive: Heap,
     pub deceased: Heap,
 }
 
 // A heap that a gossip was pushed to, or as it came where it was full.
-#[derive(Drop)]
+#[derive(Clone, Copy)]
 pub struct Grown {
     pub heap: Heap,
     pub full: bool,
@@ -100,7 +102,7 @@ impl Disseminator {
 }
 
 // A number that may be missing.
-#[derive(Drop)]
+#[derive(Clone, Copy)]
 pub enum Found {
     Missing,
     At(u64),
@@ -147,7 +149,7 @@ pub fn is_deceased(h: Heap, a: Address) -> Found
 }
 
 // What bounds one choosing: both shares, the size, and the limit of sends.
-#[derive(Drop)]
+#[derive(Clone, Copy)]
 pub struct Terms {
     pub alive_share: usize,
     pub deceased_share: usize,
@@ -170,7 +172,7 @@ pub fn terms_of(max_selected: usize, max_size: usize, limit: u64) -> Terms
 }
 
 // The gossip chosen so far, each with the send count that it was noted with, and the bytes of all.
-#[derive(Drop)]
+#[derive(Clone, Copy)]
 pub struct Chosen {
     pub rows: [Gossip; Chosen::CAPACITY],
     pub sent: [u64; Chosen::CAPACITY],
@@ -179,7 +181,7 @@ pub struct Chosen {
 }
 
 // How far a choosing has come.
-#[derive(Drop)]
+#[derive(Clone, Copy)]
 pub struct Choice {
     pub alive: Heap,
     pub deceased: Heap,

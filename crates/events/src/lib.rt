@@ -1,4 +1,6 @@
 // The message of an event: from = 1, the address it is about = 2, its number = 3. All four kinds have these fields.
+#![tactic(auto)]
+
 ghost use Rattle.std.specs.Prelude.{◌≡◌, ◌+◌, ◌^◌, ◌≤◌, ◌<◌, length};
 ghost use Rattle.address.specs.Here.{Addr, here, here_text as text};
 ghost use Rattle.types.specs.Wire.{string, number, event_bytes};
@@ -15,7 +17,7 @@ use fields::{Field, Next};
 use iptext::Text;
 
 // What the fields of an event say so far.
-#[derive(Drop)]
+#[derive(Clone, Copy)]
 pub struct Said {
     pub from: Text,
     pub subject: Text,
@@ -23,14 +25,14 @@ pub struct Said {
 }
 
 // Where reading stopped, or what was read.
-#[derive(Drop)]
+#[derive(Clone, Copy)]
 pub enum Merged {
     Stopped(usize),
     Read(Said),
 }
 
 // What a field says that should be a text.
-#[derive(Drop)]
+#[derive(Clone, Copy)]
 pub enum TextField {
     Stopped,
     Read(Text),

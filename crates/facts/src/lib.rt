@@ -1,4 +1,6 @@
 // What a call did to the list, as lines of words: `LINE MARK ADDRESS GIVEN HELD STATE LISTED NUMBER KIND SENDER RECORD FROM START REPORTED`.
+#![tactic(auto)]
+
 ghost use Rattle.std.specs.Prelude.{◌≤◌};
 
 use accounts::{Account, Change};
@@ -13,7 +15,7 @@ use show::least;
 use types::{Event, Gossip};
 
 // The call that a change was made by: its line, and what a line says of it.
-#[derive(Drop)]
+#[derive(Clone, Copy)]
 pub struct Told {
     pub line: u64,
     pub kind: Kind,
@@ -21,7 +23,7 @@ pub struct Told {
     pub start: u32,
 }
 
-#[derive(Drop)]
+#[derive(Clone, Copy)]
 pub enum Kind {
     Add,
     Ping,

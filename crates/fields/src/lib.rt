@@ -1,11 +1,13 @@
 // One field of a protobuf message.
+#![tactic(auto)]
+
 ghost use Rattle.std.specs.Prelude.{◌≡◌, ◌<◌};
 ghost use Rattle.fields.specs.Field.{next_in, keyed, numbered, counted, fixed as fixed_of};
 
 use varint::Number;
 
 // A field: its number and wire type; what a varint says, or the count of bytes that follow; where its content begins, and its whole size.
-#[derive(Drop)]
+#[derive(Clone, Copy)]
 pub struct Field {
     pub number: u64,
     pub wire: u64,
@@ -15,7 +17,7 @@ pub struct Field {
 }
 
 // What stands at the start of some bytes: a field, or none that is whole.
-#[derive(Drop)]
+#[derive(Clone, Copy)]
 pub enum Next {
     Stopped,
     Found(Field),

@@ -1,4 +1,6 @@
 // A gossip record's message: one of four events, by its field number, or none.
+#![tactic(auto)]
+
 ghost use Rattle.std.specs.Prelude.{◌≡◌, ◌+◌, ◌^◌, ◌≤◌, ◌<◌, length};
 ghost use Rattle.fields.specs.Walk.{walk};
 ghost use Rattle.fields.specs.FieldLaws.{Lies};
@@ -13,21 +15,21 @@ use iptext::Text;
 use types::{Event, Gossip};
 
 // The event held so far: its kind, 0 for none, and what its fields say.
-#[derive(Drop)]
+#[derive(Clone, Copy)]
 pub struct Held {
     pub kind: u64,
     pub said: Said,
 }
 
 // Where reading stopped, or what was read.
-#[derive(Drop)]
+#[derive(Clone, Copy)]
 pub enum GossipRead {
     Stopped(usize),
     Read(Held),
 }
 
 // A gossip whose addresses are all there and canonical, or not.
-#[derive(Drop)]
+#[derive(Clone, Copy)]
 pub enum Settled {
     Missing,
     Whole(Gossip),

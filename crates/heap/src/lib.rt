@@ -1,4 +1,6 @@
 // A heap of gossip: fewer sends is nearer the top.
+#![tactic(auto)]
+
 pub mod sound;
 
 ghost use Rattle.std.specs.Prelude.{◌≡◌, [], ℕ, ◌+◌, ◌*◌, ◌≤◌, ◌<◌};
@@ -9,7 +11,7 @@ ghost use Rattle.heap.specs.Views.{no_entry, sends, to_entry, heap_view, pack_he
 
 use types::Gossip;
 
-#[derive(Drop)]
+#[derive(Clone, Copy)]
 pub struct Entry {
     pub gossip: Gossip,
     pub sends: u64,
@@ -17,7 +19,7 @@ pub struct Entry {
 }
 
 // The first `len` places are used; every place behind them is empty.
-#[derive(Drop)]
+#[derive(Clone, Copy)]
 pub struct Heap {
     pub entries: [Entry; Heap::CAPACITY],
     pub len: usize,

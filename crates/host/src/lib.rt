@@ -1,5 +1,7 @@
 // What a C program calls: the node and whatever is lent are rows of words that the caller owns. A call that isn't kept touches nothing but
 // the counts, which become zeros.
+#![tactic(auto)]
+
 ghost use Rattle.std.specs.Prelude.{length, ◌≡◌};
 ghost use Rattle.cwords.specs.Reading.{rows, address_in, node_of};
 ghost use Rattle.swim.specs.Lookups.{look_up, how_many, member_at};

@@ -1,5 +1,7 @@
 // What a C program calls for bytes: a list saved, restored and salvaged, and datagrams read and written. A call that isn't kept touches nothing
 // but its counts, which become zeros.
+#![tactic(auto)]
+
 ghost use Rattle.std.specs.Prelude.{◌≡◌, map, ◌<◌};
 ghost use Rattle.cwords.specs.Reading.{rows, settings_of, gossip_of, action_of, node_of};
 ghost use Rattle.datagram.specs.Contracts as datagram;

@@ -1,4 +1,6 @@
 // A saved list in bytes: written into a lent row, and read into rows of a list.
+#![tactic(auto)]
+
 ghost use Rattle.std.specs.Prelude.{◌≡◌, ◌&&◌, ◌||◌, map, ◌+◌, ◌*◌, ◌≤◌, ◌<◌, length, take, drop, leb};
 ghost use Rattle.member.specs.Views.{to_member};
 ghost use Rattle.varint.specs.Laid.{Laid, Room};
@@ -13,14 +15,14 @@ use member::Member;
 use model::State;
 
 // How many bytes were written; or there was no room for all, and none was.
-#[derive(Drop)]
+#[derive(Clone, Copy)]
 pub enum Written {
     TooLong,
     Whole(usize),
 }
 
 // What is said of an image: 14, 15, 16, or nothing against it.
-#[derive(Drop)]
+#[derive(Clone, Copy)]
 pub enum Verdict {
     Accepted,
     WrongMark,
@@ -29,7 +31,7 @@ pub enum Verdict {
 }
 
 // What stands at a place of an image, whatever the rules say of it.
-#[derive(Drop)]
+#[derive(Clone, Copy)]
 pub struct Place {
     pub addr: Address,
     pub state: u64,
@@ -37,7 +39,7 @@ pub struct Place {
 }
 
 // The places of an image as rows of a list, and whether each state is one.
-#[derive(Drop)]
+#[derive(Clone, Copy)]
 pub struct Rows {
     pub table: [Member; 64],
     pub order: [Address; 64],
@@ -45,7 +47,7 @@ pub struct Rows {
 }
 
 // What an image gives: a list in rows, in probing order; or why not, and no list.
-#[derive(Drop)]
+#[derive(Clone, Copy)]
 pub struct Loaded {
     pub verdict: Verdict,
     pub own: Address,

@@ -1,4 +1,6 @@
 // A whole datagram: one of three actions, by its field number.
+#![tactic(auto)]
+
 pub mod bare;
 
 ghost use Rattle.std.specs.Prelude.{◌≡◌, ◌+◌, ◌^◌, ◌≤◌, ◌<◌, length, replicate};
@@ -13,14 +15,14 @@ use model::Refusal;
 use types::{Action, Event, Gossip, Optional};
 
 // What a datagram says: where it is malformed, which is its length if an action or an address is missing or not canonical; or an action.
-#[derive(Drop)]
+#[derive(Clone, Copy)]
 pub enum Decoded {
     Malformed(usize),
     Whole(Action),
 }
 
 // The action, the first of its gossip, and how much there is: 65 for more than 64.
-#[derive(Drop)]
+#[derive(Clone, Copy)]
 pub struct Datagram {
     pub answer: Decoded,
     pub count: usize,
@@ -28,7 +30,7 @@ pub struct Datagram {
 }
 
 // What a host is told of a datagram: its action with the count of its records, where it is malformed, or another refusal.
-#[derive(Drop)]
+#[derive(Clone, Copy)]
 pub enum Reading {
     Whole { action: Action, count: usize },
     Malformed(usize),
@@ -36,7 +38,7 @@ pub enum Reading {
 }
 
 // The same with the records that the host is given.
-#[derive(Drop)]
+#[derive(Clone, Copy)]
 pub struct Taken {
     pub count: usize,
     pub row: [Gossip; 65],
@@ -44,21 +46,21 @@ pub struct Taken {
 }
 
 // An action whose addresses are all there, or not.
-#[derive(Drop)]
+#[derive(Clone, Copy)]
 pub enum Made {
     Missing,
     Whole(Action),
 }
 
 // The texts of an action that has no other field, its sender's first; or it is longer.
-#[derive(Drop)]
+#[derive(Clone, Copy)]
 pub enum Texts {
     Longer,
     Both { from: Text, other: Text },
 }
 
 // What a datagram says that is one action without records; or it is longer.
-#[derive(Drop)]
+#[derive(Clone, Copy)]
 pub enum Brief {
     Longer,
     Told(Decoded),

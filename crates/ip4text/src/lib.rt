@@ -1,4 +1,6 @@
 // An address of IPv4, ip × 65536 + port, as text, a.b.c.d:port: read if it is canonical, and written.
+#![tactic(auto)]
+
 ghost use Rattle.std.specs.Prelude.{◌≡◌, ◌≤◌, ◌<◌, ◌∷◌};
 ghost use Rattle.varint.specs.Laid.{Laid, Room};
 ghost use Rattle.address.specs.Text.{decimal as decimal_of, text};
@@ -7,7 +9,7 @@ ghost use Rattle.ip4text.specs.Reading.{decimal_at, ended as ended_by, part_at, 
 use varint::Number;
 
 // What a text says: nothing, no address, or one.
-#[derive(Drop)]
+#[derive(Clone, Copy)]
 pub enum Text {
     Empty,
     Malformed,

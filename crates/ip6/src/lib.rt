@@ -1,11 +1,13 @@
 // The text of an IPv6 address with its port, by RFC 5952: what it is, and how long.
+#![tactic(auto)]
+
 ghost use Rattle.std.specs.Prelude.{◌≡◌, ◌≤◌, ◌<◌, ◌+◌, ◌/◌, ◌%◌, length};
 ghost use Rattle.ip6.specs.Text6.{decimal, hex, groups, dotted, mapped as mapped_to, text6};
 ghost use Rattle.ip6.specs.Scanning.{longer as longer_of, stepped, scan};
 ghost use Rattle.ip6.specs.Lengths.{one_if, length_of};
 
 // What is counted of the groups from some place on.
-#[derive(Drop)]
+#[derive(Clone, Copy)]
 pub struct Scan {
     pub digits: u64,
     pub run: u64,

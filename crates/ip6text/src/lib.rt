@@ -1,4 +1,6 @@
 // An IPv6 address with its port as text, by RFC 5952: written, and read if it is canonical.
+#![tactic(auto)]
+
 ghost use Rattle.std.specs.Prelude.{◌≡◌, true, ◌≤◌, ◌<◌, ◌+◌, ◌/◌, ◌%◌, ◌∷◌, [], ◌++◌, length, get_or};
 ghost use Rattle.ip6.specs.Text6.{digit as digit_of, numeral_in, groups, behind, joined, without, plain, dotted, mark, ip6, text6};
 ghost use Rattle.varint.specs.Laid.{Laid, Room};
@@ -10,7 +12,7 @@ use ip6::{mapped, scanned, text_len6};
 use varint::{low, wide};
 
 // What a text says.
-#[derive(Drop)]
+#[derive(Clone, Copy)]
 pub enum Said {
     Malformed,
     Given { high: u64, low: u64, port: u64 },
@@ -18,7 +20,7 @@ pub enum Said {
 
 // What was read of a text: the groups so far, where two colons stood, the number being read, in both bases, the numbers
 // before dots, and, past the bracket, the address.
-#[derive(Drop)]
+#[derive(Clone, Copy)]
 pub struct Seen {
     pub values: [u64; 8],
     pub count: usize,

@@ -1,4 +1,6 @@
 // An address as text, a.b.c.d:port or [..]:port: read if it is canonical, and written.
+#![tactic(auto)]
+
 ghost use Rattle.std.specs.Prelude.{◌≡◌, ◌<◌};
 ghost use Rattle.varint.specs.Laid.{Laid, Room};
 ghost use Rattle.address.specs.Here.{here_text};
@@ -10,7 +12,7 @@ use ip4text::Text as Text4;
 use ip6text::Said;
 
 // What a text says: nothing, no address, or one.
-#[derive(Drop)]
+#[derive(Clone, Copy)]
 pub enum Text {
     Empty,
     Malformed,

@@ -1,4 +1,6 @@
 // What the program keeps from line to line of a script: the node, what is lent, its words, and how far it is.
+#![tactic(auto)]
+
 use model::Reply;
 use node::Node;
 use report::{put_byte, put_bytes, put_marked, put_number};
@@ -7,13 +9,13 @@ use text::Phase;
 use wait::{Wait, WaitState};
 
 // How many gossip and event places are lent, if a script says so.
-#[derive(Drop)]
+#[derive(Clone, Copy)]
 pub enum Rooms {
     AsNeeded,
     Lent { gossip: usize, events: usize },
 }
 
-#[derive(Drop)]
+#[derive(Clone, Copy)]
 pub struct Host {
     pub node: Node,
     pub wait: Wait,
@@ -134,7 +136,7 @@ impl Host {
 }
 
 // The places lent to a call.
-#[derive(Drop)]
+#[derive(Clone, Copy)]
 pub struct Rows {
     pub gossip: usize,
     pub events: usize,

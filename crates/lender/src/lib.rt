@@ -1,4 +1,6 @@
 // A host's side of the calls: rows and the wait record stand in locals, and are lent to them.
+#![tactic(auto)]
+
 ghost use Rattle.std.specs.Prelude.{◌≤◌, ◌≡◌, take, drop};
 ghost use Rattle.swim.specs.Contracts.{Receives, Steps, EndsTimer};
 
@@ -7,7 +9,7 @@ use types::{Action, Gossip};
 use wait::Wait;
 
 // What a timer call gives: how it ended, and the row of events that was lent.
-#[derive(Drop)]
+#[derive(Clone, Copy)]
 pub struct Ended {
     pub reported: usize,
     pub events: [Gossip; 1],
@@ -29,7 +31,7 @@ pub fn end_timer(node: Node, tick: u32, events: [Gossip; 1], places: usize) -> E
 }
 
 // What a step gives: how it ended, the wait record and the rows that were lent.
-#[derive(Drop)]
+#[derive(Clone, Copy)]
 pub struct Stepped {
     pub wait: Wait,
     pub reported: usize,
@@ -73,7 +75,7 @@ pub fn step(
 }
 
 // What a message call gives: how it ended, and the rows that were lent.
-#[derive(Drop)]
+#[derive(Clone, Copy)]
 pub struct Received {
     pub reported: usize,
     pub gossip: [Gossip; 64],

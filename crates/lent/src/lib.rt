@@ -1,4 +1,6 @@
 // The rows that a host lends: read into an array of the call, and written from one.
+#![tactic(auto)]
+
 ghost use Rattle.std.specs.Prelude.{◌≡◌, ◌++◌, ◌≤◌, length, take, drop, replicate};
 ghost use Rattle.model.specs.Rows.{pad_to};
 ghost use Rattle.types.specs.Views.{no_gossip};

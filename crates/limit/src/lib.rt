@@ -1,4 +1,6 @@
 // The send limits: how often a gossip is sent, by the number of members and the send constant.
+#![tactic(auto)]
+
 ghost use Rattle.std.specs.Prelude.{◌≡◌, ◌≤◌};
 ghost use Rattle.model.specs.Limit.{limit_of};
 

@@ -1,1 +1,2 @@
 // What a collector sees, in plain words: theorems, in specs/. There is no code here.
+#![tactic(auto)]

@@ -1,4 +1,6 @@
 // The list of peers over its probing order: a record for each listed address, and the order in which they are probed.
+#![tactic(auto)]
+
 pub mod lamps;
 pub mod sound;
 
@@ -15,7 +17,7 @@ use model::{Drew, Lamps, Refusal, State};
 use order::{Exclusion, Order, Picks};
 
 // What is held of a listed peer.
-#[derive(Drop)]
+#[derive(Clone, Copy)]
 pub struct Member {
     pub addr: Address,
     pub state: State,
@@ -37,7 +39,7 @@ impl Member {
 
 // The first len places of both rows are used: the records as they came in, and the order that they are probed in. The lamps count
 // them by their states, the own address left out; whoever changes the list says which address that is.
-#[derive(Drop)]
+#[derive(Clone, Copy)]
 pub struct Members {
     pub table: [Member; Members::CAPACITY],
     pub len: usize,
@@ -46,7 +48,7 @@ pub struct Members {
 }
 
 // What a list says of an address: its place, its state and its number; or the length, Alive and 0 where it is not listed.
-#[derive(Drop)]
+#[derive(Clone, Copy)]
 pub struct Standing {
     pub listed: bool,
     pub place: usize,
@@ -94,14 +96,14 @@ fn position_after(position: usize, len: usize) -> usize
 }
 
 // What a rule that reads draws leaves. Where it is refused the members are as they came.
-#[derive(Drop)]
+#[derive(Clone, Copy)]
 pub struct Kept {
     pub members: Members,
     pub drew: Drew,
 }
 
 // What a pick leaves. Where it is refused the members are as they came, and nobody is picked.
-#[derive(Drop)]
+#[derive(Clone, Copy)]
 pub struct Picked {
     pub members: Members,
     pub picks: Picks,

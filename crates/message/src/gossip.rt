@@ -27,7 +27,7 @@ use rules::{News, Verdict};
 use types::{Event, Gossip, Optional};
 
 // What a message brings: its records, and the sender if it is to come in.
-#[derive(Drop)]
+#[derive(Clone, Copy)]
 pub struct Lent {
     pub rows: [Gossip; 64],
     pub given: usize,
@@ -35,7 +35,7 @@ pub struct Lent {
 }
 
 // What was heard: the node, the events to report and the draws used. Where a rule was refused, the node as it came and whose rule it was.
-#[derive(Drop)]
+#[derive(Clone, Copy)]
 pub struct Heard {
     pub node: Node,
     pub events: [Gossip; Heard::EVENTS],
@@ -178,7 +178,7 @@ fn tell(heap: Heap, kind: Kind, news: News) -> Heap
 }
 
 // The events so far, and how many held ones were collected.
-#[derive(Drop)]
+#[derive(Clone, Copy)]
 pub struct Report {
     pub events: [Gossip; Heard::EVENTS],
     pub count: usize,

@@ -1,4 +1,6 @@
 // The handler: what a message does to a node, by value.
+#![tactic(auto)]
+
 pub mod gossip;
 
 ghost use Rattle.std.specs.Prelude.{◌≡◌, true, ◌≤◌, length, take};
@@ -20,7 +22,7 @@ use node::{Answer, Letter, Node};
 use types::{Action, Event, Gossip, Optional};
 
 // What a message call gives: the answer, the gossip of its message, and the events to report.
-#[derive(Drop)]
+#[derive(Clone, Copy)]
 pub struct Received {
     pub written: usize,
     pub reported: usize,

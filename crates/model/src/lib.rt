@@ -1,11 +1,13 @@
 // The words that the rules and the code share: whatever holds no address. The rules themselves stand in specs/.
+#![tactic(auto)]
+
 ghost use Rattle.std.specs.Prelude.{◌≡◌, ◌&&◌, ◌+◌, ◌≤◌};
 ghost use Rattle.model.specs.Answers.{number_of};
 ghost use Rattle.model.specs.Words.{is_alive};
 ghost use Rattle.model.specs.Lamps.{dark, lamp_of, more, less, same_lamps};
 
 // What a list says of a peer. Alive comes first: it is the state of an unused place.
-#[derive(Drop)]
+#[derive(Clone, Copy)]
 pub enum State {
     Alive,
     Pending,
@@ -13,7 +15,7 @@ pub enum State {
 }
 
 // What the front panel shows: how many peers are in each state, the own address left out.
-#[derive(Drop)]
+#[derive(Clone, Copy)]
 pub struct Lamps {
     pub alive: usize,
     pub pending: usize,
@@ -91,14 +93,14 @@ impl Lamps {
 }
 
 // The two heaps of a node: what is known of the living, and the deaths.
-#[derive(Drop)]
+#[derive(Clone, Copy)]
 pub enum Kind {
     Alive,
     Deceased,
 }
 
 // The refusals, in the order of their numbers.
-#[derive(Drop)]
+#[derive(Clone, Copy)]
 pub enum Refusal {
     Setting,
     Unsound,
@@ -119,14 +121,14 @@ pub enum Refusal {
 }
 
 // Where the rules of a message stopped: at a gossip record, counted from 0 in the lent row, or at the sender's own admission.
-#[derive(Drop)]
+#[derive(Clone, Copy)]
 pub enum Cause {
     Record(usize),
     Sender,
 }
 
 // What becomes of a timer's address when the timer ends: it leaves, it stays, or it is absent already.
-#[derive(Drop)]
+#[derive(Clone, Copy)]
 pub enum Fate {
     Leaves,
     Stays,
@@ -135,7 +137,7 @@ pub enum Fate {
 
 // How a call ended: kept, with how many draws it used; kept with nothing to do; of a timer call alone, a timer ended and removed
 // nobody, since its address was refuted or gone already; refused; or, of a message alone, refused by its rules, and where.
-#[derive(Drop)]
+#[derive(Clone, Copy)]
 pub enum Reply {
     Done(usize),
     Already,
@@ -147,14 +149,14 @@ pub enum Reply {
 }
 
 // How a rule that reads draws ended: how many it used, or why it was refused.
-#[derive(Drop)]
+#[derive(Clone, Copy)]
 pub enum Drew {
     Used(usize),
     Refused(Refusal),
 }
 
 // What a node is set up with.
-#[derive(Drop)]
+#[derive(Clone, Copy)]
 pub struct Settings {
     pub ping_interval: u32,
     pub ping_timeout: u32,

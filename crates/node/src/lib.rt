@@ -1,4 +1,6 @@
 // A node as a value: its settings, its own address, the list, the disseminator, the timers and the departed. And the calls that need nothing else.
+#![tactic(auto)]
+
 pub mod parts;
 pub mod settings;
 pub mod tests;
@@ -19,7 +21,7 @@ use order::Order;
 use timers::Timers;
 use types::{Action, Optional};
 
-#[derive(Drop)]
+#[derive(Clone, Copy)]
 pub struct Node {
     pub settings: Settings,
     pub own: Address,
@@ -86,7 +88,7 @@ fn nobody_listed() -> Members
 }
 
 // A message to be sent, and how many gossip records it carries.
-#[derive(Drop)]
+#[derive(Clone, Copy)]
 pub struct Letter {
     pub target: Address,
     pub action: Action,
@@ -111,7 +113,7 @@ impl Letter {
 }
 
 // What a call answers: how it ended, the node, the messages to be sent, in order, and how many held events were collected.
-#[derive(Drop)]
+#[derive(Clone, Copy)]
 pub struct Answer {
     pub reply: Reply,
     pub node: Node,

@@ -117,7 +117,7 @@ impl Node {
 }
 
 // A node whose heaps gave gossip for a message.
-#[derive(Drop)]
+#[derive(Clone, Copy)]
 pub struct Spread {
     pub node: Node,
     pub rows: [Gossip; 64],

@@ -1,4 +1,6 @@
 // A number in bytes, the high byte first.
+#![tactic(auto)]
+
 ghost use Rattle.std.specs.Prelude.{◌≡◌, ◌+◌, ◌≤◌, ◌<◌, ◌^◌, length, take, drop};
 ghost use Rattle.varint.specs.Laid.{Laid, Room};
 ghost use Rattle.numbers.specs.Numbers.{big_endian, number_of};

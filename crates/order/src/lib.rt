@@ -1,4 +1,6 @@
 // The probing order: a row of 64 places, taken and handed back whole.
+#![tactic(auto)]
+
 ghost use Rattle.std.specs.Prelude.{◌≡◌, [], ◌+◌, ◌-◌, ◌≤◌, ◌<◌, min, length, take, get_or, set};
 ghost use Rattle.address.specs.Here.{here};
 ghost use Rattle.model.specs.Rows.{insert_at, remove_at, pad_to};
@@ -10,7 +12,7 @@ use address::Address;
 use model::{Drew, Refusal};
 
 // The order of a list, and the place that is probed next.
-#[derive(Drop)]
+#[derive(Clone, Copy)]
 pub struct Order {
     pub row: [Address; Order::CAPACITY],
     pub position: usize,
@@ -79,7 +81,7 @@ pub fn remove(row: [Address; Order::CAPACITY], n: usize, place: usize) -> [Addre
 }
 
 // What a shuffle gives. Where a draw was missing the row is as it came.
-#[derive(Drop)]
+#[derive(Clone, Copy)]
 pub struct Shuffled {
     pub row: [Address; Order::CAPACITY],
     pub drew: Drew,
@@ -116,7 +118,7 @@ pub fn shuffle(row: [Address; Order::CAPACITY], n: usize, draws: &[u64], from: u
 }
 
 // What an advance gives. Where a draw was missing the order is as it came.
-#[derive(Drop)]
+#[derive(Clone, Copy)]
 pub struct Turned {
     pub order: Order,
     pub drew: Drew,
@@ -157,7 +159,7 @@ pub fn advance(order: Order, n: usize, draws: &[u64], from: usize) -> Turned
 }
 
 // Whom a pick passes over besides the own address.
-#[derive(Drop)]
+#[derive(Clone, Copy)]
 pub enum Exclusion {
     Nobody,
     Peer(Address),
@@ -209,7 +211,7 @@ fn cap(exclusion: Exclusion, wanted: usize, n: usize) -> usize
 }
 
 // The addresses that were picked, from the front.
-#[derive(Drop)]
+#[derive(Clone, Copy)]
 pub struct Picks {
     pub row: [Address; Picks::CAPACITY],
     pub count: usize,
@@ -259,7 +261,7 @@ fn goes_on(left: usize, count: usize, wanted: usize) -> bool
 }
 
 // What a pick gives. Where a draw was missing the order is as it came, and nobody is picked.
-#[derive(Drop)]
+#[derive(Clone, Copy)]
 pub struct Picked {
     pub order: Order,
     pub picks: Picks,

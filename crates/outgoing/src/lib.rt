@@ -1,4 +1,6 @@
 // A datagram, written into a lent row of bytes.
+#![tactic(auto)]
+
 ghost use Rattle.std.specs.Prelude.{◌≡◌, ◌+◌, ◌*◌, ◌≤◌, ◌<◌, [], length, take};
 ghost use Rattle.varint.specs.Laid.{Laid, Room};
 ghost use Rattle.types.specs.Wire.{delimited};
@@ -11,14 +13,14 @@ use model::Refusal;
 use types::{Action, Gossip, Optional};
 
 // How many bytes were written; or why none was.
-#[derive(Drop)]
+#[derive(Clone, Copy)]
 pub enum Writing {
     Whole(usize),
     Refused(Refusal),
 }
 
 // An action taken apart.
-#[derive(Drop)]
+#[derive(Clone, Copy)]
 pub struct Opened {
     pub kind: u64,
     pub from: Address,

@@ -1,4 +1,6 @@
 // Pings and ping requests: what is picked, changed and sent.
+#![tactic(auto)]
+
 ghost use Rattle.std.specs.Prelude.{◌≡◌, true, [], map, ◌+◌, ◌*◌, ◌≤◌, ◌<◌, length, take};
 ghost use Rattle.address.specs.Here.{here};
 ghost use Rattle.model.specs.declared.State.TheVariants.{Suspected};
@@ -90,7 +92,7 @@ pub fn send_ping(node: Node, wait: Wait, tick: u32, draws: &[u64]) -> Stepped
 }
 
 // A node, and what it sends to the group so far.
-#[derive(Drop)]
+#[derive(Clone, Copy)]
 pub struct Asked {
     pub node: Node,
     pub mail: Mail,
@@ -134,7 +136,7 @@ fn ask_each(node: Node, picks: Picks, suspect: Address) -> Asked
 }
 
 // Of whom a suspicion is, at which number, and the gossip that reports it.
-#[derive(Drop)]
+#[derive(Clone, Copy)]
 pub struct Suspicion {
     pub target: Address,
     pub number: u64,

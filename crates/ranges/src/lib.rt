@@ -1,4 +1,6 @@
 // Is every address of a message in range?
+#![tactic(auto)]
+
 ghost use Rattle.std.specs.Prelude.{◌≡◌, map, ◌≤◌, take};
 ghost use Rattle.address.specs.Here.{here};
 ghost use Rattle.model.specs.Rows.{every};

@@ -1,4 +1,6 @@
 // Writes answers as text. Bytes gather in a lent buffer from place 0 on, and go to standard output whenever it is full.
+#![tactic(auto)]
+
 use address::Address;
 use libc::STDOUT_FILENO;
 use model::{Cause, Refusal, Reply, State};

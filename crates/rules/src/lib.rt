@@ -1,4 +1,6 @@
 // The rules of an event: the verdict on it, what that does to the list, and what is said of it.
+#![tactic(auto)]
+
 ghost use Rattle.std.specs.Prelude.{◌≡◌, ◌&&◌, not, ◌≤◌, length, eqb};
 ghost use Rattle.address.specs.Here.{here};
 ghost use Rattle.model.specs.Rows as rows;
@@ -23,7 +25,7 @@ use types::{Event, Gossip};
 
 // What an event comes to. Nothing happens: there is none, the address is unknown, a suspicion's number equals that of a peer that isn't Alive, or the number is not high enough.
 // Or a number plus one is needed and there is none. Or the own address refutes a suspicion; an address comes in; a listed one is raised, recovers, is suspected or dies.
-#[derive(Drop)]
+#[derive(Clone, Copy)]
 pub enum Verdict {
     Skip,
     Unknown,
@@ -39,7 +41,7 @@ pub enum Verdict {
 }
 
 // An event that is emitted, and the heap that it goes to.
-#[derive(Drop)]
+#[derive(Clone, Copy)]
 pub enum News {
     Silent,
     Emits { kind: Kind, event: Event },

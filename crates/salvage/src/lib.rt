@@ -1,4 +1,6 @@
 // Salvage of a saved list: the records that are in rule are kept in order, the others dropped, with a word for each.
+#![tactic(auto)]
+
 ghost use Rattle.std.specs.Prelude.{◌≡◌, ◌+◌, ◌≤◌, min, length, take, drop};
 ghost use Rattle.address.specs.Here.{here};
 ghost use Rattle.model.specs.Rows.{has};
@@ -13,7 +15,7 @@ use member::Member;
 use model::Refusal;
 
 // What is said of a record place: its bytes are not all there, or what it is dropped for, or that it is kept.
-#[derive(Drop)]
+#[derive(Clone, Copy)]
 pub enum Word {
     Cut,
     Address,
@@ -23,7 +25,7 @@ pub enum Word {
 }
 
 // The word for a place, as it stands in a row.
-#[derive(Drop)]
+#[derive(Clone, Copy)]
 pub struct Said {
     pub word: Word,
 }
@@ -38,14 +40,14 @@ impl Said {
 }
 
 // A place, and what is said of it.
-#[derive(Drop)]
+#[derive(Clone, Copy)]
 pub struct Seen {
     pub word: Word,
     pub place: Place,
 }
 
 // The records kept, which stand first in the table, and a word for each place read.
-#[derive(Drop)]
+#[derive(Clone, Copy)]
 pub struct Sifted {
     pub table: [Member; 64],
     pub len: usize,
@@ -53,14 +55,14 @@ pub struct Sifted {
 }
 
 // How many bytes were written; or why none was.
-#[derive(Drop)]
+#[derive(Clone, Copy)]
 pub enum Ends {
     Whole(usize),
     Refused(Refusal),
 }
 
 // What a salvage gives: how it ended, the count as it stands in the image, how many places were read, and a word for each of them.
-#[derive(Drop)]
+#[derive(Clone, Copy)]
 pub struct Salvaged {
     pub ends: Ends,
     pub count: usize,

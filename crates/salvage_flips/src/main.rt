@@ -1,5 +1,7 @@
 // Damaged images of either version: every single-bit flip and every truncation of a small one, each answer printed; every flip of a full one, summed up. What must
 // be printed was reasoned from the change requests by a script of its own, oracle/salvage_answers.py, which also wrote the images on standard input.
+#![tactic(auto)]
+
 mod tell;
 
 use libc::STDIN_FILENO;

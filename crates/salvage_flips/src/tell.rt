@@ -3,7 +3,7 @@ use report::{put_byte, put_bytes, put_marked, put_number, put_written};
 use salvage::{Ends, Said, Salvaged, Word};
 
 // How often each word was said and each refusal given, and how many bytes were written.
-#[derive(Drop)]
+#[derive(Clone, Copy)]
 pub struct Tally {
     pub marks: u64,
     pub rules: u64,

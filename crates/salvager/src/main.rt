@@ -1,5 +1,7 @@
 // The tool for the person at the rack: an image on standard input, what can be kept of it on standard output, and a line for each place on standard error.
 // A program gives no exit code of its own: its digit goes to descriptor 3, for `bin/salvage`.
+#![tactic(auto)]
+
 mod tell;
 
 use libc::{STDERR_FILENO, STDIN_FILENO, STDOUT_FILENO};
@@ -7,7 +9,7 @@ use salvage::Ends;
 use tell::{any_dropped, put_places, put_refusal};
 
 // The descriptor that takes the exit code.
-#[derive(Drop)]
+#[derive(Clone, Copy)]
 struct Code {
     fd: i32,
 }

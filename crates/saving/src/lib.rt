@@ -1,4 +1,6 @@
 // Restart with the list we had: a node's list saved in bytes, and a node restored from them.
+#![tactic(auto)]
+
 ghost use Rattle.std.specs.Prelude.{◌≡◌, ◌≤◌};
 ghost use Rattle.member.specs.Views.{Held};
 ghost use Rattle.saving.specs.Views.{row_in_order, Saves, members_of, not_restored, set_up_of, restored_of};
@@ -14,14 +16,14 @@ use timers::Timers;
 use wait::Wait;
 
 // How many bytes were written; or why none was.
-#[derive(Drop)]
+#[derive(Clone, Copy)]
 pub enum Saving {
     Whole(usize),
     Refused(Refusal),
 }
 
 // What a restart gives: how it ended, the node, and a fresh wait record.
-#[derive(Drop)]
+#[derive(Clone, Copy)]
 pub struct Restored {
     pub answer: Answer,
     pub wait: Wait,

@@ -1,4 +1,6 @@
 // Writes what a call answered, and the state that it left, as text.
+#![tactic(auto)]
+
 mod answers;
 mod datagrams;
 mod reasons;

@@ -1,4 +1,6 @@
 // What a host calls. The node goes in and comes back by value; the rows and the wait record are lent.
+#![tactic(auto)]
+
 pub mod lookup;
 pub mod salvaged;
 pub mod saved;
@@ -16,7 +18,7 @@ use wait::Wait;
 use why::Grounds;
 
 // How a call ended, the node, the messages to send, and how many events were reported.
-#[derive(Drop)]
+#[derive(Clone, Copy)]
 pub struct Outcome {
     pub reported: usize,
     pub answer: Answer,

@@ -8,7 +8,7 @@ use model::{Lamps, Refusal, State};
 use node::Node;
 
 // What is held of an address or at a place. A node that isn't sound is no proof that a peer has gone, so it gets a refusal.
-#[derive(Drop)]
+#[derive(Clone, Copy)]
 pub enum Lookup {
     NotListed,
     Listed {
@@ -20,7 +20,7 @@ pub enum Lookup {
 }
 
 // How many addresses are listed.
-#[derive(Drop)]
+#[derive(Clone, Copy)]
 pub enum Tally {
     Listed(usize),
     Refused(Refusal),

@@ -1,4 +1,6 @@
 // A line's command, called, and what it did to the list told.
+#![tactic(auto)]
+
 use address::Address;
 use facts::{
     Kind, Told, put_about, put_facts, put_listed, put_mark, put_numbered, put_refused, put_restored,

@@ -8,7 +8,7 @@ use words::{
 };
 
 // The state of a wait record.
-#[derive(Drop)]
+#[derive(Clone, Copy)]
 pub enum Phase {
     SendingPing,
     WaitingForPingAck { target: Address, number: u64 },
@@ -17,7 +17,7 @@ pub enum Phase {
     Declaring { target: Address, number: u64 },
 }
 
-#[derive(Drop)]
+#[derive(Clone, Copy)]
 pub enum Command {
     Malformed,
     New {
@@ -66,14 +66,14 @@ pub enum Command {
 }
 
 // A command, and the place of the word after it.
-#[derive(Drop)]
+#[derive(Clone, Copy)]
 pub struct Head {
     pub command: Command,
     pub next: usize,
 }
 
 // The eight numbers among the settings of a `new` or a `restore` line.
-#[derive(Drop)]
+#[derive(Clone, Copy)]
 pub struct Ticks {
     pub values: [u32; 8],
     pub next: usize,
@@ -111,7 +111,7 @@ fn ticks_at(s: &[u8], from: usize) -> Ticks {
 }
 
 // The settings that are words, at the end of such a line.
-#[derive(Drop)]
+#[derive(Clone, Copy)]
 pub struct Options {
     pub collect: bool,
     pub remember: bool,

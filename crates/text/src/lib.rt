@@ -1,4 +1,6 @@
 // Reads the lines of a script: records, commands, draws. It knows no node.
+#![tactic(auto)]
+
 mod command;
 mod line;
 mod records;

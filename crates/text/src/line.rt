@@ -4,7 +4,7 @@ use crate::records::{Records, no_records, records_at};
 use words::{BytesAt, MarkAt, NumberAt, bytes_at, mark_at, number_at};
 
 // A command with its records, and how many draws and bytes it brings.
-#[derive(Drop)]
+#[derive(Clone, Copy)]
 pub struct Line {
     pub command: Command,
     pub records: Records,
@@ -12,14 +12,14 @@ pub struct Line {
     pub length: usize,
 }
 
-#[derive(Drop)]
+#[derive(Clone, Copy)]
 pub enum Drawn {
     Malformed,
     Count(usize),
 }
 
 // What stands after the first words of a command.
-#[derive(Drop)]
+#[derive(Clone, Copy)]
 pub enum Tail {
     Nothing,
     Draws,

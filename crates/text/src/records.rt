@@ -3,13 +3,13 @@ use address::Address;
 use types::{Event, Gossip};
 use words::{AddressAt, MarkAt, NumberAt, address_field_at, find, mark_at, number_at};
 
-#[derive(Drop)]
+#[derive(Clone, Copy)]
 pub enum Record {
     Malformed,
     Read(Event),
 }
 
-#[derive(Drop)]
+#[derive(Clone, Copy)]
 pub enum RecordAt {
     Malformed,
     Bar(usize),
@@ -18,7 +18,7 @@ pub enum RecordAt {
 }
 
 // The records of a line. The first 64 are kept; of the others only the form is tested.
-#[derive(Drop)]
+#[derive(Clone, Copy)]
 pub struct Records {
     pub rows: [Gossip; 64],
     pub given: usize,

@@ -1,4 +1,6 @@
 // The timer call: the earliest started timer that is over ends.
+#![tactic(auto)]
+
 ghost use Rattle.std.specs.Prelude.{◌≡◌, true, ◌≤◌, ◌<◌};
 ghost use Rattle.address.specs.Here.{here};
 ghost use Rattle.model.specs.declared.Fate.TheVariants as Fate;
@@ -20,7 +22,7 @@ use timers::{Ending, Timer};
 use types::{Event, Gossip};
 
 // What a timer call gives: its answer, and the event that it reported.
-#[derive(Drop)]
+#[derive(Clone, Copy)]
 pub struct Ended {
     pub reported: usize,
     pub events: [Gossip; Ended::EVENTS],

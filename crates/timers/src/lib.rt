@@ -1,4 +1,6 @@
 // Declaration timers: a row of 16 places, in starting order.
+#![tactic(auto)]
+
 ghost use Rattle.std.specs.Prelude.{◌≡◌, ◌<◌, ◌≤◌, [], ◌∷◌, ◌++◌, map, take, drop};
 ghost use Rattle.address.specs.Here.{here};
 ghost use Rattle.model.specs.Rows.{pad_to, remove_at, every};
@@ -10,7 +12,7 @@ use address::Address;
 use model::both;
 
 // A running declaration: whom, the number it will name, and the tick it was started at.
-#[derive(Drop)]
+#[derive(Clone, Copy)]
 pub struct Timer {
     pub addr: Address,
     pub number: u64,
@@ -18,7 +20,7 @@ pub struct Timer {
 }
 
 // The first `len` places are used; every place behind them is zero.
-#[derive(Drop)]
+#[derive(Clone, Copy)]
 pub struct Timers {
     pub entries: [Timer; Timers::CAPACITY],
     pub len: usize,
@@ -104,7 +106,7 @@ fn close_up(entries: [Timer; Timers::CAPACITY], n: usize, place: usize) -> [Time
 }
 
 // Which timer ends, if one does.
-#[derive(Drop)]
+#[derive(Clone, Copy)]
 pub enum Ending {
     Nothing,
     At(usize),

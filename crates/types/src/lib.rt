@@ -1,4 +1,6 @@
 // Events, gossip and actions, and how many bytes a gossip takes on the wire.
+#![tactic(auto)]
+
 ghost use Rattle.std.specs.Prelude.{◌≡◌, ◌≤◌};
 ghost use Rattle.address.specs.Here.{here};
 ghost use Rattle.model.specs.Words.{parts_of, same_gossip};
@@ -10,7 +12,7 @@ use address::Address;
 use model::both;
 
 // Nothing comes first: it is the event of an unused place.
-#[derive(Drop)]
+#[derive(Clone, Copy)]
 pub enum Event {
     Nothing,
     Joined {
@@ -35,7 +37,7 @@ pub enum Event {
     },
 }
 
-#[derive(Drop)]
+#[derive(Clone, Copy)]
 pub struct Gossip {
     pub event: Event,
 }
@@ -52,13 +54,13 @@ impl Gossip {
 }
 
 // An address that may be absent.
-#[derive(Drop)]
+#[derive(Clone, Copy)]
 pub enum Optional {
     Absent,
     Given(Address),
 }
 
-#[derive(Drop)]
+#[derive(Clone, Copy)]
 pub enum Action {
     Ping {
         from: Address,
@@ -137,7 +139,7 @@ impl Event {
 }
 
 // An event taken apart: its kind, 0 for none, and what it holds.
-#[derive(Drop)]
+#[derive(Clone, Copy)]
 pub struct Parts {
     pub kind: u64,
     pub from: Address,
@@ -231,7 +233,7 @@ fn number_size(n: u64) -> u64
 }
 
 // An address and the length of its text: where many events are from one address, that is measured once.
-#[derive(Drop)]
+#[derive(Clone, Copy)]
 pub struct Measured {
     pub addr: Address,
     pub chars: u64,

@@ -1,5 +1,7 @@
 // Refusal 2: a sound node, changed as each line of a script says, is handed to the calls that change a node, and to `why`.
 // A line is a clause, then changes, each behind a bar: a letter and numbers (see `change.rt`).
+#![tactic(auto)]
+
 mod change;
 mod made;
 mod tell;

@@ -1,9 +1,11 @@
 // Whether bytes are UTF-8, as RFC 3629 has it.
+#![tactic(auto)]
+
 ghost use Rattle.std.specs.Prelude.{◌≡◌};
 ghost use Rattle.utf8.specs.Utf8.{asks, leads, after as goes_further, utf8};
 
 // What a first byte asks for: how many bytes behind it, and what the next of them lies between. A byte that begins no character asks for four.
-#[derive(Drop)]
+#[derive(Clone, Copy)]
 pub struct Lead {
     pub left: u64,
     pub low: u8,

@@ -1,11 +1,13 @@
 // A number as protobuf writes it: seven bits a byte, the lowest first, 128 more in each byte but the last.
+#![tactic(auto)]
+
 ghost use Rattle.std.specs.Prelude.{◌≡◌, ◌<◌};
 ghost use Rattle.types.specs.Wire.{varint};
 ghost use Rattle.varint.specs.Laid.{Laid, Room};
 ghost use Rattle.varint.specs.Varint.{number_at};
 
 // What stands at the start of some bytes: a number, with how many bytes it takes, or none that is whole and below 2^64.
-#[derive(Drop)]
+#[derive(Clone, Copy)]
 pub enum Number {
     Stopped,
     Found { value: u64, size: usize },

@@ -1,4 +1,6 @@
 // The wait record of the failure detector, and what a step gives.
+#![tactic(auto)]
+
 pub mod mail;
 
 ghost use Rattle.std.specs.Prelude.{◌≡◌};
@@ -11,7 +13,7 @@ use node::{Answer, Node};
 use types::{Event, Gossip};
 
 // What the detector waits for. SendingPing comes first: a fresh wait record is in it.
-#[derive(Drop)]
+#[derive(Clone, Copy)]
 pub enum WaitState {
     SendingPing,
     WaitingForPingAck { target: Address, number: u64 },
@@ -21,7 +23,7 @@ pub enum WaitState {
 }
 
 // The state, and the tick at which it was entered.
-#[derive(Drop)]
+#[derive(Clone, Copy)]
 pub struct Wait {
     pub state: WaitState,
     pub since: u32,
@@ -40,7 +42,7 @@ impl Wait {
 }
 
 // What a step gives: its answer, the wait record, the gossip of its messages in sending order, and the event that it reported.
-#[derive(Drop)]
+#[derive(Clone, Copy)]
 pub struct Stepped {
     pub wait: Wait,
     pub written: usize,

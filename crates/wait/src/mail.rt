@@ -11,7 +11,7 @@ use address::Address;
 use node::{Answer, Letter};
 use types::{Action, Event, Gossip};
 
-#[derive(Drop)]
+#[derive(Clone, Copy)]
 pub struct Mail {
     pub letters: [Letter; Answer::LETTERS],
     pub sent: usize,

@@ -1,4 +1,6 @@
 // Why an event was decided as it was: the judge's verdict in support's words, or the refusal that the handler would give. It changes nothing.
+#![tactic(auto)]
+
 ghost use Rattle.std.specs.Prelude.{◌≡◌};
 ghost use Rattle.address.specs.Here.{here};
 ghost use Rattle.model.specs.Answers.{full_of};
@@ -20,7 +22,7 @@ use rules::{News, Verdict};
 use types::{Gossip, Parts};
 
 // Which rule decides an event. None comes first: a record of no event is skipped.
-#[derive(Drop)]
+#[derive(Clone, Copy)]
 pub enum Reason {
     None,
     Own,
@@ -32,7 +34,7 @@ pub enum Reason {
 }
 
 // The reason, with the held number, the event's own number and D, each where it exists; or the refusal.
-#[derive(Drop)]
+#[derive(Clone, Copy)]
 pub enum Grounds {
     Because {
         reason: Reason,
@@ -44,7 +46,7 @@ pub enum Grounds {
 }
 
 // What stops a verdict that is carried out, if anything does.
-#[derive(Drop)]
+#[derive(Clone, Copy)]
 pub enum Stop {
     Nothing,
     By(Refusal),

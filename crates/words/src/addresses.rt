@@ -3,7 +3,7 @@ use crate::places::{field_at, number_at};
 use crate::{Number, NumberAt, number_of};
 use address::Address;
 
-#[derive(Drop)]
+#[derive(Clone, Copy)]
 pub enum Named {
     Malformed,
     Said(Address),

@@ -1,4 +1,6 @@
 // Reads words: numbers, addresses, marks, each from its place in a line.
+#![tactic(auto)]
+
 mod addresses;
 mod pairs;
 mod places;
@@ -13,7 +15,7 @@ pub use places::{
     number_at, optional_at, tick_at,
 };
 
-#[derive(Drop)]
+#[derive(Clone, Copy)]
 pub enum Number {
     Malformed,
     Value(u64),

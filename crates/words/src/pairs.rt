@@ -2,19 +2,19 @@
 use crate::places::{MarkAt, find, mark_at};
 
 // How many bytes a word says.
-#[derive(Drop)]
+#[derive(Clone, Copy)]
 pub enum BytesAt {
     Malformed,
     Found { length: usize, next: usize },
 }
 
-#[derive(Drop)]
+#[derive(Clone, Copy)]
 enum Digit {
     Malformed,
     Value(u8),
 }
 
-#[derive(Drop)]
+#[derive(Clone, Copy)]
 enum Pair {
     Malformed,
     Value(u8),

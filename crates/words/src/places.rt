@@ -6,31 +6,31 @@ use crate::{Number, number_of};
 use address::Address;
 use types::Optional;
 
-#[derive(Drop)]
+#[derive(Clone, Copy)]
 pub enum NumberAt {
     Malformed,
     Found { value: u64, next: usize },
 }
 
-#[derive(Drop)]
+#[derive(Clone, Copy)]
 pub enum TickAt {
     Malformed,
     Found { value: u32, next: usize },
 }
 
-#[derive(Drop)]
+#[derive(Clone, Copy)]
 pub enum AddressAt {
     Malformed,
     Found { address: Address, next: usize },
 }
 
-#[derive(Drop)]
+#[derive(Clone, Copy)]
 pub enum OptionalAt {
     Malformed,
     Found { address: Optional, next: usize },
 }
 
-#[derive(Drop)]
+#[derive(Clone, Copy)]
 pub enum MarkAt {
     Missing,
     Found(usize),
