@@ -1,0 +1,20 @@
+-- `timers::close_up` meets its contract: after i turns the row is the first i of the model's list, and unused places.
+-- Assumes nothing.
+use Rattle.std.proofs.Common.{◌≡◌, ◌-◌, length, replicate, ap, ⊎_elim, arith, rules}
+use Rattle.laws.specs.Loops.{Closing, close_starts, close_before, close_after, close_ends}
+use Rattle.timers.specs.declared.Timer.{Timer}
+use Rattle.timers.specs.Views.{no_timer}
+use Rattle.timers.proofs.close_up.Goals as goal
+
+pub loop-i-init : goal.loop-i-init
+loop-i-init c =
+    let long : length c.args.t1 ≡ 16 = search rules in
+    close_starts long (omega arith) (omega arith) (ap (λ (z : Timer). replicate 16 z) c.empty-t.ensures)
+
+pub loop-i-preserved : goal.loop-i-preserved
+loop-i-preserved c =
+    let l = c.loop-i in
+    ⊎_elim (λ w. close_before l.invariant _ (omega arith) w.0.taken w.2) (λ w. close_after l.invariant _ (omega arith) w.0.left w.2) c.if-i-place.branch
+
+pub returns : goal.returns
+returns c = close_ends c.loop-i.invariant (omega arith)
