@@ -13,7 +13,7 @@ use Rattle.order.proofs.insert.Goals as goal
 pub loop-i-init : goal.loop-i-init
 loop-i-init c =
     let a = c.args in
-    (omega arith, shift_starts 64 here.blank a.t1 a.n a.place a.x 63 (omega arith) (search rules) (omega arith) (omega arith))
+    (omega arith, shift_starts 64 here.blank a.row a.n a.place a.x 63 (omega arith) (search rules) (omega arith) (omega arith))
 
 pub loop-i-preserved : goal.loop-i-preserved
 loop-i-preserved c =

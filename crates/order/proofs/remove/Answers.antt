@@ -12,7 +12,7 @@ use Rattle.order.proofs.remove.Goals as goal
 
 pub loop-i-init : goal.loop-i-init
 loop-i-init c =
-    let long : length c.args.t1 ≡ 64 = search rules in
+    let long : length c.args.row ≡ 64 = search rules in
     close_starts long (omega arith) (omega arith) (ap (λ (z : Addr). replicate 64 z) c.blank-out.ensures)
 
 pub loop-i-preserved : goal.loop-i-preserved

@@ -8,7 +8,7 @@ use Rattle.timers.proofs.close_up.Goals as goal
 
 pub loop-i-init : goal.loop-i-init
 loop-i-init c =
-    let long : length c.args.t1 ≡ 16 = search rules in
+    let long : length c.args.entries ≡ 16 = search rules in
     close_starts long (omega arith) (omega arith) (ap (λ (z : Timer). replicate 16 z) c.empty-t.ensures)
 
 pub loop-i-preserved : goal.loop-i-preserved
