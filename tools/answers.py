@@ -26,9 +26,10 @@ class Function:
     """What the check makes of one function: its places, goals and loops, by their old names."""
 
     def __init__(self, it):
-        self.places, self.clauses = {}, {}
+        self.places, self.clauses, self.raw = {}, {}, {}
         for (old, parent, (was, now), _, _), new, arm, clause in zip(it["places"], it["places_by_name"], it["arms"], it["clauses"]):
             self.places[flat(old)] = (flat(parent) if parent else None, flat(was), now, new, arm)
+            self.raw[flat(old)] = old
             self.clauses[now] = (clause or {}).get("fields") or []
         self.asked = {new for _, new in it["asked_at"]}
         self.goals = [(old, new) for old, new in it["needs"]]
@@ -213,7 +214,7 @@ class Turner:
                     return "goal." + new
                 self.inner = True
                 loops = "".join(f" goal.the-invariant-{n[1]} goal.the-decreases-{n[1]}" for n, _ in self.f.loops)
-                return f"lts.{new} tie.the-claims reads.Pre reads.Post{loops}"
+                return f"lts.{self.f.raw[p]} tie.the-claims reads.Pre reads.Post{loops}"
             return m[0]
 
         text = re.sub(r"tie\.((?:After|Then|Else|At|In|Start)[^\s()]*)(?: invariant-\S+?(?=[ )])| decreases-\S+?(?=[ )]))*", one, text)
