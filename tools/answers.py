@@ -19,21 +19,25 @@ TRIVIAL = re.compile(r"^\(?λ [^.()]*\. search rules\)?$")
 
 
 def flat(name):
-    return name.replace("_", "-")
+    return name.replace("_", "-").replace("«", "").replace("»", "")
 
 
 class Function:
     """What the check makes of one function: its places, goals and loops, by their old names."""
 
     def __init__(self, it):
-        self.places = {}
-        for (old, parent, (was, now), _, _), new, arm in zip(it["places"], it["places_by_name"], it["arms"]):
+        self.places, self.clauses, self.raw = {}, {}, {}
+        for (old, parent, (was, now), _, _), new, arm, clause in zip(it["places"], it["places_by_name"], it["arms"], it["clauses"]):
             self.places[flat(old)] = (flat(parent) if parent else None, flat(was), now, new, arm)
+            self.raw[flat(old)] = old
+            self.clauses[now] = (clause or {}).get("fields") or []
+        self.asked = {new for _, new in it["asked_at"]}
         self.goals = [(old, new) for old, new in it["needs"]]
         self.at = [flat(a) for a, _ in it["asked_at"]]
         self.loops = it["loops"]
         self.changed = it["changed"]
         self.settled = len(it["settled"])
+        self.args = {old.split(" .")[-1]: new.split(" .")[-1] for old, new in it["args"] if old.startswith(".args ")}
 
     def goal(self, name):
         for i, (old, new) in enumerate(self.goals):
@@ -122,6 +126,8 @@ class Turner:
         self.f, self.crate, self.path = function, crate, path
         self.said = []
         self.helpers = {}
+        self.negates = False
+        self.inner = False
 
     def say(self, text):
         self.said.append(text)
@@ -147,14 +153,41 @@ class Turner:
                 return m[0]
             name, rest = parts[0], parts[1:]
             if name in ("args", "requires", "well_formed", "ranges"):
+                if rest and name in ("args", "ranges"):
+                    rest[0] = self.f.args.get(rest[0], rest[0])
                 return ".".join([var, name] + rest)
             found = self.f.field(place, name, rest)
             if found is None:
                 self.say(f"no step {name} at {place}")
                 return ".".join([var] + parts)
-            return ".".join([var, found[0]] + rest[found[1] :])
+            rest = rest[found[1] :]
+            if found[0].startswith("if-") and rest:
+                rest[0] = {"taken": "true", "left": "false"}.get(rest[0], rest[0])
+            fields = self.f.clauses.get(found[0], [])
+            if fields and rest[:1] == ["ensures"]:
+                if len(fields) == 1:
+                    rest.insert(1, fields[0])
+                elif len(rest) > 1 and rest[1].isdigit():
+                    # The last of a nest of pairs stands behind as many steps.
+                    k, used = 0, 1
+                    while used < len(rest) and rest[used] == "1" and k + 2 < len(fields):
+                        k, used = k + 1, used + 1
+                    k = min(len(fields) - 1, k + int(rest[used])) if used < len(rest) and rest[used].isdigit() else k
+                    rest[1 : used + 1] = [fields[k]]
+            return ".".join([var, found[0]] + rest)
 
-        text = re.sub(rf"(?<![^\s(){{}}\[\];,])({heads})((?:\.{WORD})+)", path, text)
+        text = re.sub(rf"(?<![^\s(){{}}\[\];,])({heads})((?:\.(?:«{WORD}»|{WORD}))+)", path, text)
+        # A test of a negation is what it says of the negated now.
+        test = rf"{re.escape(var)}\.if-not-{WORD}\.(?:true|false)"
+        text = re.sub(rf"not-(?:true|false) _ \(({test})\)", r"\1·", text)
+        text = re.sub(rf"not-(?:true|false) _ ({test})", r"\1·", text)
+        text = re.sub(rf"({test})(?!·)", r"(ap not \1)", text)
+        self.negates |= "(ap not " in text
+        text = text.replace("·", "")
+        # Names for arguments.
+        for m in list(re.finditer(rf"let ({WORD}) = {re.escape(var)}\.args in", text)):
+            for old, new in self.f.args.items():
+                text = re.sub(rf"(?<![^\s(){{}}\[\];,]){re.escape(m[1])}\.{re.escape(old)}(?![\w-])", f"{m[1]}.{new}", text)
         # A helper takes the record of its own place.
         for helper, at in self.helpers.items():
             steps = list(self.f.chain(place))
@@ -176,11 +209,16 @@ class Turner:
         def one(m):
             p = flat(m[1])
             if p in self.f.places:
-                return "goal." + self.f.places[p][3]
+                new = self.f.places[p][3]
+                if new in self.f.asked:
+                    return "goal." + new
+                self.inner = True
+                loops = "".join(f" goal.the-invariant-{n[1]} goal.the-decreases-{n[1]}" for n, _ in self.f.loops)
+                return f"lts.{self.f.raw[p]} tie.the-claims reads.Pre reads.Post{loops}"
             return m[0]
 
         text = re.sub(r"tie\.((?:After|Then|Else|At|In|Start)[^\s()]*)(?: invariant-\S+?(?=[ )])| decreases-\S+?(?=[ )]))*", one, text)
-        return re.sub(r"(goal\.[^\s()]+)((?: (?:invariant|decreases)-[^\s()]+)+)", r"\1", text)
+        return re.sub(r" (?:invariant|decreases)-[^\s()]+", "", text) if "tie." not in text.replace("tie.the-claims", "") else text
 
     def invariant(self, block):
         """An invariant or a measure of a loop, over the record of its variables."""
@@ -221,6 +259,72 @@ class Turner:
         return i
 
 
+def labelled(turner, index, body):
+    """A tuple of what a function ensures is a record of the clauses' names."""
+    goal = turner.f.goals[index][1]
+    labels = turner.labels
+    if not goal.startswith("returns") or len(labels) < 2:
+        return body
+    text = body.rstrip()
+    if not text.endswith(")"):
+        return body
+    depth, at = 0, len(text) - 1
+    while at >= 0:
+        depth += {")": 1, "]": 1, "}": 1, "(": -1, "[": -1, "{": -1}.get(text[at], 0)
+        if depth == 0:
+            break
+        at -= 1
+    before = text[:at].rstrip()
+    if before and not re.search(r"(^| )in$", before):
+        return body
+
+    def parts(inner):
+        out, depth, now = [], 0, ""
+        for ch in inner:
+            depth += {"(": 1, "[": 1, "{": 1, ")": -1, "]": -1, "}": -1}.get(ch, 0)
+            if ch == "," and depth == 0:
+                out.append(now.strip())
+                now = ""
+            else:
+                now += ch
+        if now.strip():
+            out.append(now.strip())
+        return out
+
+    found = parts(text[at + 1 : -1])
+    while len(found) < len(labels) and found and found[-1].startswith("(") and found[-1].endswith(")"):
+        inner = parts(found[-1][1:-1])
+        if len(inner) < 2:
+            break
+        found[-1:] = inner
+    if len(found) != len(labels):
+        turner.say(f"{goal}: {len(found)} parts for {labels}")
+        return body
+    return text[:at] + "record { " + "; ".join(f"{l} = {p}" for l, p in zip(labels, found)) + " }"
+
+
+def labels_of(crate, folder):
+    """The names of a function's ensures, from its source."""
+    inner = os.path.relpath(folder, f"crates/{crate}/proofs").split(os.sep)
+    name = inner[-1].lstrip("+")
+    src = f"crates/{crate}/src"
+    files = [os.path.join(src, inner[0] + ".rt")] if len(inner) > 1 and os.path.exists(os.path.join(src, inner[0] + ".rt")) else []
+    files += [os.path.join(src, f) for f in ("lib.rt", "main.rt") if os.path.exists(os.path.join(src, f))]
+    for path in files:
+        with open(path, encoding="utf-8") as f:
+            text = f.read()
+        if len(inner) > 1 and inner[-2][0].isupper():
+            m = re.search(rf"(?m)^impl {inner[-2]}\b", text)
+            if not m:
+                continue
+            text = text[m.start() :]
+        m = re.search(rf"\bfn {re.escape(name)}\b", text)
+        if m:
+            head = re.split(r"(?m)^ *\{\s*$", text[m.start() :], maxsplit=1)[0]
+            return re.findall(r"\bensures (\w+) \{", head)
+    return []
+
+
 def answer(turner, index, block, old):
     """The block of an answer, under its goal's new name."""
     f = turner.f
@@ -241,14 +345,14 @@ def answer(turner, index, block, old):
         return None
     var = m[1]
     body = text[m.end() :]
-    body = turner.body(body, f.at[index], var)
+    body = labelled(turner, index, turner.body(body, f.at[index], var))
     return "\n".join(comment + [f"pub {new} : goal.{new}"] + unfolding + [f"{new} {var} ={body}"])
 
 
 def inline(turner, index, arg):
     m = re.match(rf"^\(λ ({WORD})(?: κs)?\. (.*)\)$", arg, re.S)
     new = turner.f.goals[index][1]
-    body = turner.body(" " + m[2], turner.f.at[index], m[1])
+    body = labelled(turner, index, turner.body(" " + m[2], turner.f.at[index], m[1]))
     return f"pub {new} : goal.{new}\n{new} {m[1]} ={body}"
 
 
@@ -300,6 +404,7 @@ def turn(path, function, crate):
     folder = os.path.dirname(path)
     module = f"Rattle.{crate}.proofs." + ".".join(os.path.relpath(folder, f"crates/{crate}/proofs").split(os.sep))
     t = Turner(function, crate, path)
+    t.labels = labels_of(crate, folder)
     head, decls = blocks(text)
     uses = [u for u in re.findall(r"(?m)^use [^\n]*(?:\n[ }][^\n]*)*", head) if not re.search(r"\.(Statement|Tie|Lts|Reads)(?:\.| |$)", u.split("{")[0])]
     comments = [l for l in head.split("\n") if l.startswith("--")]
@@ -366,6 +471,8 @@ def turn(path, function, crate):
     if invariants:
         pub = []
         for h in moved:
+            if re.search(r"(?m)^record ", h):
+                h = re.sub(rf"(?m)^  ({WORD}) :", r"  pub \1 :", h)
             h = re.sub(r"(?m)^(record|data) ", r"pub \1 ", h, count=1)
             if not re.search(r"(?m)^(abbrev )?pub ", h):
                 h = re.sub(r"(?m)^abbrev ", "abbrev pub ", h, count=1) if h.startswith("abbrev") else "pub " + h
@@ -373,6 +480,12 @@ def turn(path, function, crate):
         out = note + "\n" + "\n".join(uses + [f"use {module}.Given as goal"]) + "\n\n" + "\n\n".join(pub + invariants) + "\n"
         with open(os.path.join(folder, "Invariants.antt"), "w", encoding="utf-8") as f:
             f.write(out)
+    if t.inner:
+        uses += [f"use {module}.Lts as lts", f"use {module}.Tie as tie", f"use {module}.Reads as reads"]
+    if t.negates:
+        for n, m in (("ap", "mathlib.Core.Path"), ("not", "mathlib.Core.Bool")):
+            if not re.search(rf"[{{ ,]{n}[}},]", "\n".join(uses)):
+                uses.append(f"use {m}.{{{n}}}")
     own = [f"use {module}.Invariants.{{{', '.join(name_of(h) for h in moved)}}}"] if moved else []
     if answers or helpers:
         out = note + "\n" + "\n".join(uses + own + [f"use {module}.Goals as goal"]) + "\n\n" + "\n\n".join(helpers + [a for _, a in answers]) + "\n"

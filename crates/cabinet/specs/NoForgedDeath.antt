@@ -32,10 +32,13 @@ module _ {A : Type 0} where
   Carries x n (Lends wait) = ⊥
 
   named-at : (gs : List (Gossip A)) (i : ℕ) (from x : A) (n : ℕ) → At gs i (record { event = Deceased from x n }) → Among (λ g. Names deaths x n g.event) gs
+  named-at [] i from x n e = elim e [ ]
   named-at (g ∷ gs) zero from x n e = here (from, ap (λ (y : Gossip A). y.event) e)
   named-at (g ∷ gs) (suc i) from x n e = there (named-at gs i from x n e)
 
   dead-at : (P : A → ℕ → Type 0) (gs : List (Gossip A)) (i : ℕ) (from x : A) (n : ℕ) → InGossip deaths P gs → At gs i (record { event = Deceased from x n }) → P x n
+  dead-at P _ zero from x n Rattle.cabinet.specs.Each.nil e = elim e [ ]
+  dead-at P _ (suc i) from x n Rattle.cabinet.specs.Each.nil e = elim e [ ]
   dead-at P _ zero from x n (cons p ps) e = rw e at p
   dead-at P _ (suc i) from x n (cons {l = gs} p ps) e = dead-at P gs i from x n ps e
 

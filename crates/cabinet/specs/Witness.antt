@@ -128,6 +128,7 @@ Nowhere P [] = Unit {0}
 Nowhere P (u ∷ g) = (P u g → ⊥) × Nowhere P g
 
 nowhere : {P : Turn ℕ → List (Turn ℕ) → Type 0} (g : List (Turn ℕ)) → Nowhere P g → Once P g → ⊥
+nowhere {P = P} [] n x'' = elim x'' [ ]
 nowhere (u ∷ g) n (this p) = n.0 p
 nowhere (u ∷ g) n (earlier o) = nowhere g n.1 o
 

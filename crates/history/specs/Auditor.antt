@@ -69,11 +69,13 @@ module _ {A : Type 0} (address : Address A) (a : A) where
   Staying s (d ∷ ds) = (goes address a d s ≡ false) × Staying s ds
 
   none-goes : {B : Type 0} (s : Node A) (ds : List (Deed A)) (i : ℕ) (d : Deed A) → Staying s ds → At ds i d → goes address a d s ≡ true → B
+  none-goes {B = B} s [] i d p e g = elim e [ ]
   none-goes s (x ∷ ds) zero d p e g = never (sym p.0 ∙ ap (λ (y : Deed A). goes address a y s) e ∙ g)
   none-goes s (x ∷ ds) (suc i) d p e g = none-goes s ds i d p.1 e g
 
   -- a place of a message's records
   at_records : (gs : List (Gossip A)) (i : ℕ) (d : Deed A) → At (records gs) i d → (e : Event A) × At gs i (record { event = e }) × (d ≡ Told e)
+  at_records [] i d p = elim p [ ]
   at_records (g ∷ gs) zero d p = (g.event, refl, sym p)
   at_records (g ∷ gs) (suc i) d p = at_records gs i d p
 
@@ -111,6 +113,8 @@ module _ {A : Type 0} (address : Address A) (a : A) where
     timer_goes : (c : Call A) (w : World A) (now : ℕ) (lent : Room) (o : Option ℕ) (i : ℕ) (s : Node A) (d : Deed A) → c ≡ calls.Timer now lent
         → first_over address w.node.settings.suspect_timeout now (loaded w.node).timers ≡ o
         → At (timer_deeds address o (loaded w.node)) i d → goes address a d s ≡ true → Cause c w i s
+    timer_goes c w now lent none i s d q o p g = elim p [ ]
+    timer_goes c w now lent (some j) (suc _) s d q o p g = elim p [ ]
     timer_goes c w now lent (some j) zero s d q o p g =
         let timers = (loaded w.node).timers in
         let t = get_or timers j (no_timer address) in

@@ -19,6 +19,7 @@ use Rattle.history.specs.Worlds.{Stands, stands, call-stands}
 use Rattle.history.specs.Chain as chain
 
 pub at_is : {B : Type 0} (l : List B) (i : ℕ) (x y : B) → At l i x → At l i y → x ≡ y
+at_is {B = B} [] i x y p q = elim p [ ]
 at_is (z ∷ l) zero x y p q = sym p ∙ q
 at_is (z ∷ l) (suc i) x y p q = at_is l i x y p q
 
@@ -35,16 +36,19 @@ module _ {A : Type 0} (address : Address A) (a : A) where
     pub gone : lists address a m.after ≡ false
 
   pub deed_at : (ms : List (Moment A)) (i : ℕ) (m : Moment A) → At ms i m → At (deeds_in ms) i m.deed
+  deed_at [] i m p = elim p [ ]
   deed_at (x ∷ ms) zero m p = ap (λ (y : Moment A). y.deed) p
   deed_at (x ∷ ms) (suc i) m p = deed_at ms i m p
 
   -- each moment, with the ledger before it
   pub fine_at : (own : A) (ms : List (Moment A)) (t : Tally) (i : ℕ) (m : Moment A) → At ms i m → Along address a own ms t → Fine address a own (tally address a (take i ms) t) m
+  fine_at own [] t i m p f = elim p [ ]
   fine_at own (x ∷ ms) t zero m p f = subst (Fine address a own t) p f.0
   fine_at own (x ∷ ms) t (suc i) m p f = fine_at own ms (step address a x t) i m p f.1
 
   -- the records come first
   in_records : (gs : List (Gossip A)) (rest : List (Deed A)) (i : ℕ) (e : Event A) → At gs i (record { event = e }) → At (records gs ++ rest) i (Told e)
+  in_records [] rest i e p = elim p [ ]
   in_records (g ∷ gs) rest zero e p = ap (λ (x : Gossip A). Told x.event) p
   in_records (g ∷ gs) rest (suc i) e p = in_records gs rest i e p
 
@@ -81,6 +85,9 @@ module _ {A : Type 0} (address : Address A) (a : A) where
 
   -- a place of what a call asked: it was kept
   pub at-asked : (r : Reply) (ds : List (Deed A)) (i : ℕ) (d : Deed A) → At (asked_by address r ds) i d → At ds i d
+  at-asked Rattle.model.specs.declared.Reply.TheVariants.NotDue ds i d p = elim p [ ]
+  at-asked (Rattle.model.specs.declared.Reply.TheVariants.Refused _) ds i d p = elim p [ ]
+  at-asked (Rattle.model.specs.declared.Reply.TheVariants.RefusedAt _ _) ds i d p = elim p [ ]
   at-asked (Done used) ds i d p = p
   at-asked Already ds i d p = p
   at-asked Refuted ds i d p = p

@@ -13,10 +13,10 @@ pub returns-in-Nobody : goal.returns-in-Nobody
 returns-in-Nobody c =
     let a = c.args in
     let e = ap (λ (x : Exclusion). cap here.same here.blank here.blank (excluded x) a.wanted a.n) c.in-Nobody.is in
-    (c.at_most.ensures ∙ sym e, (omega arith, omega arith))
+    record { value = c.at_most.ensures ∙ sym e; within = (omega arith, omega arith) }
 
 pub returns-in-Peer : goal.returns-in-Peer
 returns-in-Peer c =
     let a = c.args in
     let e = ap (λ (x : Exclusion). cap here.same here.blank here.blank (excluded x) a.wanted a.n) c.in-Peer.is in
-    (c.at_most-in-Peer.ensures ∙ sym e, (omega arith, omega arith))
+    record { value = c.at_most-in-Peer.ensures ∙ sym e; within = (omega arith, omega arith) }

@@ -8,12 +8,12 @@ use borrow.Author.Rules.{rules}
 use Rattle.order.proofs.find_place.Goals as goal
 
 pub loop-i-init : goal.loop-i-init
-loop-i-init c = seek-first (here.same c.args.a) c.args.t1 c.args.n (omega arith)
+loop-i-init c = seek-first (here.same c.args.a) c.args.row c.args.n (omega arith)
 
 pub returns-then-same : goal.returns-then-same
 returns-then-same c =
     let l = c.loop-i in
-    (seek_found here.blank l.invariant _ (omega arith) c.same.ensures c.if-same.true, omega arith)
+    record { value = seek_found here.blank l.invariant _ (omega arith) c.same.ensures c.if-same.true; within = omega arith }
 
 pub loop-i-preserved : goal.loop-i-preserved
 loop-i-preserved c =
@@ -21,4 +21,4 @@ loop-i-preserved c =
     seek-next here.blank l.invariant _ (omega arith) c.same.ensures c.if-same.false
 
 pub returns : goal.returns
-returns c = (seek-ends here.blank c.loop-i.invariant (omega arith), omega arith)
+returns c = record { value = seek-ends here.blank c.loop-i.invariant (omega arith); within = omega arith }

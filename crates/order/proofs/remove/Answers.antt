@@ -9,16 +9,20 @@ use Rattle.laws.specs.Loops.{Closing, close_starts, close_before, close_after, c
 use Rattle.address.specs.Here.{Addr, here}
 use borrow.Author.Rules.{rules}
 use Rattle.order.proofs.remove.Goals as goal
+use Rattle.order.proofs.remove.Goals.{then-i-place, else-i-place}
 
 pub loop-i-init : goal.loop-i-init
 loop-i-init c =
-    let long : length c.args.t1 ≡ 64 = search rules in
+    let long : length c.args.row ≡ 64 = search rules in
     close_starts long (omega arith) (omega arith) (ap (λ (z : Addr). replicate 64 z) c.blank-out.ensures)
 
 pub loop-i-preserved : goal.loop-i-preserved
 loop-i-preserved c =
     let l = c.loop-i in
-    ⊎_elim (λ w. close_before l.invariant _ (omega arith) w.0.taken w.2) (λ w. close_after l.invariant _ (omega arith) w.0.left w.2) c.if-i-place.branch
+    elim c.if-i-place.branch [
+      | then-i-place w ↦ close_before l.invariant _ (omega arith) w.if-i-place.true w.out-is
+      | else-i-place w ↦ close_after l.invariant _ (omega arith) w.if-i-place.false w.out-is
+    ]
 
 pub returns : goal.returns
 returns c = close_ends c.loop-i.invariant (omega arith)

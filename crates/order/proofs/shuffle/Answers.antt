@@ -17,10 +17,8 @@ use Rattle.order.proofs.shuffle.Invariants.{Left}
 use Rattle.order.proofs.shuffle.Goals as goal
 
 -- the other place is below i
-below : (c : goal.After-shared_slice_known-1)
-    → get_or c.args.draws.now c.loop-i.next 0 % c.loop-i.i
-    < c.loop-i.i
-below c = mod-lt (get_or c.args.draws.now c.loop-i.next 0) (omega arith)
+below : (d i : ℕ) → 0 < i → d % i < i
+below d i h = mod-lt d h
 
 pub loop-i-init : goal.loop-i-init
 unfolding shuffle
@@ -44,16 +42,16 @@ returns-then-draws-next c =
     (sym (shuffle-short here.blank l.i (take a.n l.out) a.draws.now l.next c.loop-i-test.true c.if-draws-next.true) ∙ sym l.invariant.same)
 
 pub offset_bounds-out-j : goal.offset_bounds-out-j
-offset_bounds-out-j c = omega (arith, below c.before)
+offset_bounds-out-j c = omega (arith, below (get_or c.args.draws.now c.loop-i.next 0) c.loop-i.i (omega arith))
 
 pub bounds-out-j : goal.bounds-out-j
-bounds-out-j c = omega (arith, below c.before)
+bounds-out-j c = omega (arith, below (get_or c.args.draws.now c.loop-i.next 0) c.loop-i.i (omega arith))
 
 pub offset_bounds-out-j-in-loop-i : goal.offset_bounds-out-j-in-loop-i
-offset_bounds-out-j-in-loop-i c = omega (arith, below c.before.before)
+offset_bounds-out-j-in-loop-i c = omega (arith, below (get_or c.args.draws.now c.loop-i.next 0) c.loop-i.i (omega arith))
 
 pub bounds-out-j-in-loop-i : goal.bounds-out-j-in-loop-i
-bounds-out-j-in-loop-i c = omega (arith, below c.before.before)
+bounds-out-j-in-loop-i c = omega (arith, below (get_or c.args.draws.now c.loop-i.next 0) c.loop-i.i (omega arith))
 
 pub loop-i-preserved : goal.loop-i-preserved
 unfolding swap
@@ -67,12 +65,12 @@ loop-i-preserved c =
       after = omega (arith, l.invariant.after);
       within = omega arith;
       long = simp length-set l.invariant.long;
-      rest = drop-swap here.blank a.n l.out k j (omega (arith, l.invariant.few)) (omega (arith, below c.before.before, l.invariant.few)) ∙ l.invariant.rest;
+      rest = drop-swap here.blank a.n l.out k j (omega (arith, l.invariant.few)) (omega (arith, below (get_or c.args.draws.now c.loop-i.next 0) c.loop-i.i (omega arith), l.invariant.few)) ∙ l.invariant.rest;
       same =
           l.invariant.same
           ∙ shuffle-turn here.blank l.i (take a.n l.out) a.draws.now l.next (omega arith) (omega arith)
           ∙ ap (λ (r : List Addr). shuffle_from here.blank (k - 1) r (drop (l.next + 1) a.draws.now))
-          (sym (take-swap here.blank a.n l.out k j (omega (arith, l.invariant.few)) (omega (arith, below c.before.before, l.invariant.few))));
+          (sym (take-swap here.blank a.n l.out k j (omega (arith, l.invariant.few)) (omega (arith, below (get_or c.args.draws.now c.loop-i.next 0) c.loop-i.i (omega arith), l.invariant.few))));
     }
 
 pub returns : goal.returns

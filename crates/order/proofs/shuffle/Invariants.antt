@@ -16,12 +16,12 @@ use borrow.Author.Rules.{rules}
 use Rattle.order.proofs.shuffle.Given as goal
 
 pub record Left (row : List Addr) (n : ℕ) (draws : List ℕ) (from : ℕ) (out : List Addr) (next i : ℕ) : Type 0 where
-  few : i ≤ n
-  after : from ≤ next
-  within : next ≤ length draws
-  long : length out ≡ 64
-  rest : drop n out ≡ drop n row
-  same : shuffle here.blank (take n row) (drop from draws) ≡ shuffle_from here.blank (i - 1) (take n out) (drop next draws)
+  pub few : i ≤ n
+  pub after : from ≤ next
+  pub within : next ≤ length draws
+  pub long : length out ≡ 64
+  pub rest : drop n out ≡ drop n row
+  pub same : shuffle here.blank (take n row) (drop from draws) ≡ shuffle_from here.blank (i - 1) (take n out) (drop next draws)
 
 abbrev pub invariant-loop-i : goal.invariant-loop-i
 invariant-loop-i l = Left l.row l.n l.draws l.from l.out l.next l.i

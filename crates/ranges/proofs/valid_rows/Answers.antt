@@ -29,26 +29,26 @@ pub returns-then-not-valid_gossip : goal.returns-then-not-valid_gossip
 returns-then-not-valid_gossip c =
     let at = c.loop-i in
     let a = c.args in
-    let long : length a.t1 ≡ 64 = search rules in
-    let n : length (take a.given a.t1) ≡ a.given = length-take-le a.given a.t1 (omega arith) in
-    sym (loop_fails valid no_gossip (take a.given a.t1) _ at.i at.invariant.1 (omega arith)
-    (ap valid (get_or-take a.given a.t1 at.i no_gossip (omega arith)) ∙ sym c.valid_gossip.ensures ∙ not-true _ c.if-not-valid_gossip.true))
-    ∙ as-rules (take a.given a.t1)
+    let long : length a.rows ≡ 64 = search rules in
+    let n : length (take a.given a.rows) ≡ a.given = length-take-le a.given a.rows (omega arith) in
+    sym (loop_fails valid no_gossip (take a.given a.rows) _ at.i at.invariant.1 (omega arith)
+    (ap valid (get_or-take a.given a.rows at.i no_gossip (omega arith)) ∙ sym c.valid_gossip.ensures ∙ c.if-not-valid_gossip.true))
+    ∙ as-rules (take a.given a.rows)
 
 pub loop-i-preserved : goal.loop-i-preserved
 loop-i-preserved c =
     let at = c.loop-i in
     let a = c.args in
-    let long : length a.t1 ≡ 64 = search rules in
-    let n : length (take a.given a.t1) ≡ a.given = length-take-le a.given a.t1 (omega arith) in (
+    let long : length a.rows ≡ 64 = search rules in
+    let n : length (take a.given a.rows) ≡ a.given = length-take-le a.given a.rows (omega arith) in (
       omega arith,
-      loop_next valid no_gossip (take a.given a.t1) _ at.i at.invariant.1 (omega arith)
-          (ap valid (get_or-take a.given a.t1 at.i no_gossip (omega arith)) ∙ sym c.valid_gossip.ensures ∙ not-false _ c.if-not-valid_gossip.false),
+      loop_next valid no_gossip (take a.given a.rows) _ at.i at.invariant.1 (omega arith)
+          (ap valid (get_or-take a.given a.rows at.i no_gossip (omega arith)) ∙ sym c.valid_gossip.ensures ∙ c.if-not-valid_gossip.false),
     )
 
 pub returns : goal.returns
 returns c =
     let a = c.args in
-    let long : length a.t1 ≡ 64 = search rules in
-    let n : length (take a.given a.t1) ≡ a.given = length-take-le a.given a.t1 (omega arith) in
-    sym (loop_ends valid no_gossip (take a.given a.t1) _ c.loop-i.i c.loop-i.invariant.1 (omega arith)) ∙ as-rules (take a.given a.t1)
+    let long : length a.rows ≡ 64 = search rules in
+    let n : length (take a.given a.rows) ≡ a.given = length-take-le a.given a.rows (omega arith) in
+    sym (loop_ends valid no_gossip (take a.given a.rows) _ c.loop-i.i c.loop-i.invariant.1 (omega arith)) ∙ as-rules (take a.given a.rows)

@@ -4,18 +4,20 @@ use Rattle.std.proofs.Common.{◌≡◌, ◌-◌, length, drop, arith, rules}
 use Rattle.model.specs.Rows.{every}
 use Rattle.laws.specs.Loops.{Tested, test_from, test_fails, test_next, test_ends}
 use Rattle.timers.specs.Views.{no_timer, is_empty_place}
+use mathlib.Core.Path.{ap}
+use mathlib.Core.Bool.{not}
 use Rattle.timers.proofs.all_empty.Goals as goal
 
 pub loop-i-init : goal.loop-i-init
 loop-i-init c =
-    let long : length c.args.t1 ≡ 16 = search rules in
-    test_from is_empty_place c.args.t1 16 c.args.n long (omega arith)
+    let long : length c.args.entries ≡ 16 = search rules in
+    test_from is_empty_place c.args.entries 16 c.args.n long (omega arith)
 
 pub returns-then-not-is_empty : goal.returns-then-not-is_empty
-returns-then-not-is_empty c = let l = c.loop-i in test_fails no_timer l.invariant _ (omega arith) c.is_empty.ensures c.if-not-is_empty.true
+returns-then-not-is_empty c = let l = c.loop-i in test_fails no_timer l.invariant _ (omega arith) c.is_empty.ensures (ap not c.if-not-is_empty.true)
 
 pub loop-i-preserved : goal.loop-i-preserved
-loop-i-preserved c = let l = c.loop-i in test_next no_timer l.invariant _ (omega arith) c.is_empty.ensures c.if-not-is_empty.false
+loop-i-preserved c = let l = c.loop-i in test_next no_timer l.invariant _ (omega arith) c.is_empty.ensures (ap not c.if-not-is_empty.false)
 
 pub returns : goal.returns
 returns c = test_ends no_timer c.loop-i.invariant (omega arith)

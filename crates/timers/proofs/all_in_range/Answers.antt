@@ -4,18 +4,20 @@ use Rattle.std.proofs.Common.{◌≡◌, ◌-◌, length, take, arith, rules}
 use Rattle.model.specs.Rows.{every}
 use Rattle.laws.specs.Loops.{Tested, test_first, test_fails, test_next, test_ends}
 use Rattle.timers.specs.Views.{no_timer, has_range}
+use mathlib.Core.Path.{ap}
+use mathlib.Core.Bool.{not}
 use Rattle.timers.proofs.all_in_range.Goals as goal
 
 pub loop-i-init : goal.loop-i-init
 loop-i-init c =
-    let long : length c.args.t1 ≡ 16 = search rules in
-    test_first has_range c.args.t1 c.args.n (omega arith)
+    let long : length c.args.entries ≡ 16 = search rules in
+    test_first has_range c.args.entries c.args.n (omega arith)
 
 pub returns-then-not-in_range : goal.returns-then-not-in_range
-returns-then-not-in_range c = let l = c.loop-i in test_fails no_timer l.invariant _ (omega arith) c.in_range.ensures c.if-not-in_range.true
+returns-then-not-in_range c = let l = c.loop-i in test_fails no_timer l.invariant _ (omega arith) c.in_range.ensures (ap not c.if-not-in_range.true)
 
 pub loop-i-preserved : goal.loop-i-preserved
-loop-i-preserved c = let l = c.loop-i in test_next no_timer l.invariant _ (omega arith) c.in_range.ensures c.if-not-in_range.false
+loop-i-preserved c = let l = c.loop-i in test_next no_timer l.invariant _ (omega arith) c.in_range.ensures (ap not c.if-not-in_range.false)
 
 pub returns : goal.returns
 returns c = test_ends no_timer c.loop-i.invariant (omega arith)

@@ -5,16 +5,20 @@ use Rattle.laws.specs.Loops.{Closing, close_starts, close_before, close_after, c
 use Rattle.timers.specs.declared.Timer.{Timer}
 use Rattle.timers.specs.Views.{no_timer}
 use Rattle.timers.proofs.close_up.Goals as goal
+use Rattle.timers.proofs.close_up.Goals.{then-i-place, else-i-place}
 
 pub loop-i-init : goal.loop-i-init
 loop-i-init c =
-    let long : length c.args.t1 ≡ 16 = search rules in
+    let long : length c.args.entries ≡ 16 = search rules in
     close_starts long (omega arith) (omega arith) (ap (λ (z : Timer). replicate 16 z) c.empty-t.ensures)
 
 pub loop-i-preserved : goal.loop-i-preserved
 loop-i-preserved c =
     let l = c.loop-i in
-    ⊎_elim (λ w. close_before l.invariant _ (omega arith) w.0.taken w.2) (λ w. close_after l.invariant _ (omega arith) w.0.left w.2) c.if-i-place.branch
+    elim c.if-i-place.branch [
+      | then-i-place w ↦ close_before l.invariant _ (omega arith) w.if-i-place.true w.out-is
+      | else-i-place w ↦ close_after l.invariant _ (omega arith) w.if-i-place.false w.out-is
+    ]
 
 pub returns : goal.returns
 returns c = close_ends c.loop-i.invariant (omega arith)

@@ -9,4 +9,4 @@ difference now since r h k l e = omega arith
 
 pub returns : goal.returns
 unfolding is_over
-returns c = ap (leb c.args.wait) (difference c.args.now c.args.since c.«wrapping-sub-u32».result (search rules) (search rules) (search rules) c.«wrapping-sub-u32».ensures)
+returns c = ap (leb c.args.wait) (difference c.args.now c.args.since c.wrapping_sub_u32.result (search rules) (search rules) (search rules) c.wrapping_sub_u32.ensures.value)

@@ -30,7 +30,7 @@ returns-then-not-place_sound c =
     let kind = c.args.kind in
     let long : length (row_over h.len h.entries).places ≡ 128 = length-map h.entries to_entry ∙ c.loop-i.invariant.1 in
     place_fails kind (row_over h.len h.entries) c.if-len-gt-CAPACITY.false long c.loop-i.i (search rules)
-    (at_place kind h.len h.entries c.loop-i.i _ _ c.above.ensures.0 c.place_sound.ensures ∙ not-true _ c.if-not-place_sound.true)
+    (at_place kind h.len h.entries c.loop-i.i _ _ c.above.ensures.0 c.place_sound.ensures ∙ c.if-not-place_sound.true)
 
 pub loop-i-preserved : goal.loop-i-preserved
 loop-i-preserved c =
@@ -39,7 +39,7 @@ loop-i-preserved c =
       search rules,
       c.loop-i.invariant.1,
       all_more (place kind (row_over h.len h.entries)) c.loop-i.i c.loop-i.invariant.2
-          (at_place kind h.len h.entries c.loop-i.i _ _ c.above.ensures.0 c.place_sound.ensures ∙ not-false _ c.if-not-place_sound.false),
+          (at_place kind h.len h.entries c.loop-i.i _ _ c.above.ensures.0 c.place_sound.ensures ∙ c.if-not-place_sound.false),
     )
 
 pub returns : goal.returns

@@ -1,0 +1,25 @@
+-- `member::close_up` meets its contract: after i turns the row is the first i of the model's list, and unused places.
+-- Assumes nothing.
+use mathlib.Core.Path.{◌≡◌, ap}
+use mathlib.Core.Logic.{⊎_elim}
+use Prim.Native.Nat.{◌-◌}
+use native.Mathlib.Omega.{arith}
+use lib.ListN.{length, replicate}
+use Rattle.laws.specs.Loops.{Closing, close_starts, close_before, close_after, close_ends}
+use Rattle.member.specs.declared.Member.{Member}
+use Rattle.member.specs.Views.{nobody}
+use borrow.Author.Rules.{rules}
+use Rattle.member.proofs.close_up.Goals as goal
+
+pub loop-i-init : goal.loop-i-init
+loop-i-init c =
+    let long : length c.args.table ≡ 64 = search rules in
+    close_starts long (omega arith) (omega arith) (ap (λ (z : Member). replicate 64 z) c.none-out.ensures)
+
+pub loop-i-preserved : goal.loop-i-preserved
+loop-i-preserved c =
+    let l = c.loop-i in
+    ⊎_elim (λ w. close_before l.invariant _ (omega arith) w.0.taken w.2) (λ w. close_after l.invariant _ (omega arith) w.0.left w.2) c.if-i-place.branch
+
+pub returns : goal.returns
+returns c = close_ends c.loop-i.invariant (omega arith)
