@@ -55,11 +55,11 @@ gives-dead-requires c =
 
 pub note_top-n-requires-in-loop-left : goal.note_top-n-requires-in-loop-left
 note_top-n-requires-in-loop-left c =
-    may_note _ _ _ (gives-requires-2 c.before κs) c.gives-dead.result c.gives-dead.ensures
+    may_note _ _ _ (gives-dead-requires c.before) c.gives-dead.result c.gives-dead.ensures
 
 pub spend_top-d-requires : goal.spend_top-d-requires
 spend_top-d-requires c =
-    may_spend _ _ _ (gives-requires-2 g.before κs) c.gives-dead.result c.gives-dead.ensures
+    may_spend _ _ _ (gives-dead-requires c.before.before) c.gives-dead.result c.gives-dead.ensures
 
 pub plus-from_deceased-requires : goal.plus-from_deceased-requires
 plus-from_deceased-requires c =
@@ -93,7 +93,7 @@ returns-after-loop-left c = ends-out _ _ _ _ c.loop-left.invariant.1 c.loop-left
 pub returns-then-over : goal.returns-then-over
 returns-then-over c =
     let t = c.args.t in
-    let k : Choice = choice c.loop-left.a c.loop-left.d c.loop-left.n c.loop-left.from-alive c.loop-left.from-deceased in
+    let k : Choice = choice c.loop-left.a c.loop-left.d c.loop-left.n c.loop-left.from_alive c.loop-left.from_deceased in
     ends-over t _ k c.loop-left.left c.loop-left.invariant.1 c.loop-left-test.true (sym (over_is t k _ c.loop-left.invariant.1.ready c.over.ensures) ∙ c.if-over.true)
 
 pub returns-then-n-before : goal.returns-then-n-before

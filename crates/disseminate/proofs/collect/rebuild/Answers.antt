@@ -36,12 +36,12 @@ loop-i-preserved c =
       v.0,
       v.1,
       search rules,
-      sift_next (is_old here a.kind (to_parts a.news)) a.h.len a.h.entries _ v.1 v.0 c.loop-i.auto c.loop-i.i v.3 c.is_old.result c.keep-kept.result (search rules) c.is_old.ensures c.keep-kept.ensures,
+      sift_next (is_old here a.kind (to_parts a.news)) a.h.len a.h.entries _ v.1 v.0 c.loop-i.kept c.loop-i.i v.3 c.is_old.result c.keep-kept.result (search rules) c.is_old.ensures c.keep-kept.ensures,
     )
 
 pub returns : goal.returns
 returns c =
     let a = c.args in
     let v = c.loop-i.invariant in
-    sym (pack_view c.loop-i.auto v.3.packed)
-    ∙ ap pack_heap (sift_ends (is_old here a.kind (to_parts a.news)) a.h.len a.h.entries _ v.1 v.0 c.loop-i.auto c.loop-i.i v.3 c.loop-i-test.false)
+    sym (pack_view c.loop-i.kept v.3.packed)
+    ∙ ap pack_heap (sift_ends (is_old here a.kind (to_parts a.news)) a.h.len a.h.entries _ v.1 v.0 c.loop-i.kept c.loop-i.i v.3 c.loop-i-test.false)
