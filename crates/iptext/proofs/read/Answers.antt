@@ -1,0 +1,15 @@
+-- `iptext::read` meets its contract: by the first byte.
+-- Assumes nothing.
+use Rattle.std.proofs.Common.{rules}
+use Rattle.iptext.specs.Saying.{read_none, read_six, read_four}
+use Rattle.iptext.proofs.read.Goals as goal
+
+pub returns-then-bytes-eq0 : goal.returns-then-bytes-eq0
+returns-then-bytes-eq0 c = read_none _ (search rules)
+
+pub returns-then-bytes-eq91 : goal.returns-then-bytes-eq91
+returns-then-bytes-eq91 c =
+    read_six c.args.bytes.now _ _ c.if-bytes-eq0.false c.if-bytes-eq91.true c.read6.ensures c.six.ensures
+
+pub returns : goal.returns
+returns c = read_four c.args.bytes.now _ _ c.if-bytes-eq0.false c.if-bytes-eq91.false c.read.ensures c.four.ensures
