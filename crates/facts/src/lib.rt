@@ -12,6 +12,7 @@ use report::{
     state_letter,
 };
 use show::least;
+use std::io::Write;
 use types::{Event, Gossip};
 
 // The call that a change was made by: its line, and what a line says of it.
@@ -33,65 +34,94 @@ pub enum Kind {
 }
 
 // `LINE MARK`.
-pub fn put_mark(out: &mut [u8], at: usize, line: u64, mark: u8) -> usize {
-    let number = put_number(out, at, line);
-    let space = put_byte(out, number, b' ');
-    put_byte(out, space, mark)
+pub fn put_mark<W: Write>(to: &mut W, out: &mut [u8], at: usize, line: u64, mark: u8) -> usize {
+    let number = put_number(to, out, at, line);
+    let space = put_byte(to, out, number, b' ');
+    put_byte(to, out, space, mark)
 }
 
 // A call that was refused.
-pub fn put_refused(out: &mut [u8], at: usize, line: u64, refusal: u8) -> usize {
-    let mark = put_mark(out, at, line, b'!');
-    let number = put_marked(out, mark, b' ', refusal as u64);
-    put_byte(out, number, b'\n')
+pub fn put_refused<W: Write>(
+    to: &mut W,
+    out: &mut [u8],
+    at: usize,
+    line: u64,
+    refusal: u8,
+) -> usize {
+    let mark = put_mark(to, out, at, line, b'!');
+    let number = put_marked(to, out, mark, b' ', refusal as u64);
+    put_byte(to, out, number, b'\n')
 }
 
 // A line about one address: `LINE MARK ADDRESS`.
-pub fn put_about(out: &mut [u8], at: usize, line: u64, mark: u8, a: Address) -> usize {
-    let start = put_mark(out, at, line, mark);
-    let end = put_marked_address(out, start, b' ', a);
-    put_byte(out, end, b'\n')
+pub fn put_about<W: Write>(
+    to: &mut W,
+    out: &mut [u8],
+    at: usize,
+    line: u64,
+    mark: u8,
+    a: Address,
+) -> usize {
+    let start = put_mark(to, out, at, line, mark);
+    let end = put_marked_address(to, out, start, b' ', a);
+    put_byte(to, out, end, b'\n')
 }
 
 // A line about an address and a number.
-pub fn put_numbered(out: &mut [u8], at: usize, line: u64, mark: u8, a: Address, n: u64) -> usize {
-    let start = put_mark(out, at, line, mark);
-    let whom = put_marked_address(out, start, b' ', a);
-    let end = put_marked(out, whom, b' ', n);
-    put_byte(out, end, b'\n')
+pub fn put_numbered<W: Write>(
+    to: &mut W,
+    out: &mut [u8],
+    at: usize,
+    line: u64,
+    mark: u8,
+    a: Address,
+    n: u64,
+) -> usize {
+    let start = put_mark(to, out, at, line, mark);
+    let whom = put_marked_address(to, out, start, b' ', a);
+    let end = put_marked(to, out, whom, b' ', n);
+    put_byte(to, out, end, b'\n')
 }
 
-fn put_flag(out: &mut [u8], at: usize, flag: bool) -> usize {
+fn put_flag<W: Write>(to: &mut W, out: &mut [u8], at: usize, flag: bool) -> usize {
     if flag {
-        return put_bytes(out, at, b" 1");
+        return put_bytes(to, out, at, b" 1");
     }
-    put_bytes(out, at, b" 0")
+    put_bytes(to, out, at, b" 0")
 }
 
-fn put_change(out: &mut [u8], at: usize, line: u64, mark: u8, change: Change) -> usize {
-    let start = put_mark(out, at, line, mark);
-    let whom = put_marked_address(out, start, b' ', change.address);
-    let given = put_marked(out, whom, b' ', change.given);
-    let held = put_marked(out, given, b' ', change.held);
-    let space = put_byte(out, held, b' ');
+fn put_change<W: Write>(
+    to: &mut W,
+    out: &mut [u8],
+    at: usize,
+    line: u64,
+    mark: u8,
+    change: Change,
+) -> usize {
+    let start = put_mark(to, out, at, line, mark);
+    let whom = put_marked_address(to, out, start, b' ', change.address);
+    let given = put_marked(to, out, whom, b' ', change.given);
+    let held = put_marked(to, out, given, b' ', change.held);
+    let space = put_byte(to, out, held, b' ');
     let state = change.state;
-    let letter = put_byte(out, space, state_letter(state));
-    let listed = put_flag(out, letter, change.listed);
-    put_marked(out, listed, b' ', change.number)
+    let letter = put_byte(to, out, space, state_letter(state));
+    let listed = put_flag(to, out, letter, change.listed);
+    put_marked(to, out, listed, b' ', change.number)
 }
 
-fn kind_word(kind: Kind, out: &mut [u8], at: usize) -> usize {
+fn kind_word<W: Write>(kind: Kind, to: &mut W, out: &mut [u8], at: usize) -> usize {
     match kind {
-        Kind::Add => put_bytes(out, at, b" add"),
-        Kind::Ping => put_bytes(out, at, b" ping"),
-        Kind::PingReq => put_bytes(out, at, b" req"),
-        Kind::Ack => put_bytes(out, at, b" ack"),
-        Kind::Timer => put_bytes(out, at, b" timer"),
+        Kind::Add => put_bytes(to, out, at, b" add"),
+        Kind::Ping => put_bytes(to, out, at, b" ping"),
+        Kind::PingReq => put_bytes(to, out, at, b" req"),
+        Kind::Ack => put_bytes(to, out, at, b" ack"),
+        Kind::Timer => put_bytes(to, out, at, b" timer"),
     }
 }
 
 // The sender, the record and whom it is from; `-` where there is none. Behind the records stands the sender's own admission.
-fn put_cause(
+fn put_cause<W: Write>(
+    to: &mut W,
     out: &mut [u8],
     at: usize,
     told: Told,
@@ -100,16 +130,16 @@ fn put_cause(
     event: Event,
 ) -> usize {
     let kind = told.kind;
-    let word = kind_word(kind, out, at);
-    let sender = put_marked_address(out, word, b' ', told.sender);
+    let word = kind_word(kind, to, out, at);
+    let sender = put_marked_address(to, out, word, b' ', told.sender);
     if given <= place {
-        let own = put_bytes(out, sender, b" sender -");
-        return put_marked(out, own, b' ', told.start as u64);
+        let own = put_bytes(to, out, sender, b" sender -");
+        return put_marked(to, out, own, b' ', told.start as u64);
     }
     let parts = types::parts_of(event);
-    let record = put_marked(out, sender, b' ', place as u64);
-    let from = put_marked_address(out, record, b' ', parts.from);
-    put_marked(out, from, b' ', told.start as u64)
+    let record = put_marked(to, out, sender, b' ', place as u64);
+    let from = put_marked_address(to, out, record, b' ', parts.from);
+    put_marked(to, out, from, b' ', told.start as u64)
 }
 
 // Is this the event that reports a change: Joined of an entry, Deceased of a departure?
@@ -134,14 +164,12 @@ fn reports(event: Event, change: Change) -> bool {
 fn reported(events: [Gossip; 65], count: usize, change: Change) -> Event
     requires { count ≤ 65 }
 {
-    let mut i = 0;
-    while i < count {
+    for i in 0..count {
         let g = events[i];
         let event = g.event;
         if reports(event, change) {
             return event;
         }
-        i += 1;
     }
     Event::Nothing
 }
@@ -169,7 +197,8 @@ fn mark_of(change: Change, notice: bool) -> u8 {
 }
 
 // One change, if there is something to tell of it.
-fn put_fact(
+fn put_fact<W: Write>(
+    to: &mut W,
     out: &mut [u8],
     at: usize,
     told: Told,
@@ -184,11 +213,11 @@ fn put_fact(
     if mark == b' ' {
         return at;
     }
-    let stood = put_change(out, at, told.line, mark, change);
-    let cause = put_cause(out, stood, told, place, given, event);
-    let space = put_byte(out, cause, b' ');
-    let end = put_record(out, space, said);
-    put_byte(out, end, b'\n')
+    let stood = put_change(to, out, at, told.line, mark, change);
+    let cause = put_cause(to, out, stood, told, place, given, event);
+    let space = put_byte(to, out, cause, b' ');
+    let end = put_record(to, out, space, said);
+    put_byte(to, out, end, b'\n')
 }
 
 // The record at a place; none behind them.
@@ -213,7 +242,8 @@ fn said_of(change: Change, events: [Gossip; 65], count: usize) -> Event {
 }
 
 // The first n changes, in their order.
-fn put_each(
+fn put_each<W: Write>(
+    to: &mut W,
     out: &mut [u8],
     from: usize,
     told: Told,
@@ -227,19 +257,18 @@ fn put_each(
     requires { n ≤ 65 }
 {
     let mut at = from;
-    let mut i = 0;
-    while i < n {
+    for i in 0..n {
         let change = changes[i];
         let event = event_at(rows, i);
         let said = said_of(change, events, count);
-        at = put_fact(out, at, told, change, i, given, event, said);
-        i += 1;
+        at = put_fact(to, out, at, told, change, i, given, event, said);
     }
     at
 }
 
 // All changes of a call. `rows` are its records, so many, and `events` what it reported.
-pub fn put_facts(
+pub fn put_facts<W: Write>(
+    to: &mut W,
     out: &mut [u8],
     at: usize,
     told: Told,
@@ -251,11 +280,12 @@ pub fn put_facts(
 ) -> usize {
     let changes = account.changes;
     let n = least(account.count, 65);
-    put_each(out, at, told, changes, n, rows, given, events, count)
+    put_each(to, out, at, told, changes, n, rows, given, events, count)
 }
 
 // Who is listed, each on a line: `LINE @ MEMBER`, or another mark.
-fn put_rows(
+fn put_rows<W: Write>(
+    to: &mut W,
     out: &mut [u8],
     from: usize,
     line: u64,
@@ -266,30 +296,34 @@ fn put_rows(
     requires { n ≤ 64 }
 {
     let mut at = from;
-    let mut i = 0;
-    while i < n {
+    for i in 0..n {
         let m = table[i];
         let state = m.state;
-        let marked = put_mark(out, at, line, mark);
-        let space = put_byte(out, marked, b' ');
-        let member = put_member(out, space, m.addr, state, m.number);
-        at = put_byte(out, member, b'\n');
-        i += 1;
+        let marked = put_mark(to, out, at, line, mark);
+        let space = put_byte(to, out, marked, b' ');
+        let member = put_member(to, out, space, m.addr, state, m.number);
+        at = put_byte(to, out, member, b'\n');
     }
     at
 }
 
 // Everybody who is listed.
-pub fn put_listed(out: &mut [u8], at: usize, line: u64, node: Node) -> usize {
+pub fn put_listed<W: Write>(to: &mut W, out: &mut [u8], at: usize, line: u64, node: Node) -> usize {
     let members = node.members;
     let table = members.table;
-    put_rows(out, at, line, b'@', table, least(members.len, 64))
+    put_rows(to, out, at, line, b'@', table, least(members.len, 64))
 }
 
 // A node that a restart gave: `LINE r OWN`, and those that it lists, `LINE b MEMBER`.
-pub fn put_restored(out: &mut [u8], at: usize, line: u64, node: Node) -> usize {
-    let first = put_about(out, at, line, b'r', node.own);
+pub fn put_restored<W: Write>(
+    to: &mut W,
+    out: &mut [u8],
+    at: usize,
+    line: u64,
+    node: Node,
+) -> usize {
+    let first = put_about(to, out, at, line, b'r', node.own);
     let members = node.members;
     let table = members.table;
-    put_rows(out, first, line, b'b', table, least(members.len, 64))
+    put_rows(to, out, first, line, b'b', table, least(members.len, 64))
 }

@@ -5,6 +5,7 @@ use model::Reply;
 use node::Node;
 use report::{put_byte, put_bytes, put_marked, put_number};
 use show::put_state;
+use std::io::Write;
 use text::Phase;
 use wait::{Wait, WaitState};
 
@@ -86,7 +87,14 @@ impl Host {
     }
 
     // The node and the wait record that a call left, shown as they are from now on.
-    pub fn shown(mut self, node: Node, wait: Wait, at: usize, out: &mut [u8]) -> Host {
+    pub fn shown<W: Write>(
+        mut self,
+        node: Node,
+        wait: Wait,
+        at: usize,
+        to: &mut W,
+        out: &mut [u8],
+    ) -> Host {
         self.node = node;
         self.wait = wait;
         self.unwritten = at;
@@ -94,42 +102,42 @@ impl Host {
             return self;
         }
         let lamps = swim::lookup::lamps(node);
-        let end = put_state(out, at, node, lamps, wait);
+        let end = put_state(to, out, at, node, lamps, wait);
         self.unwritten = end;
         self
     }
 
     // A call without a node.
-    pub fn without_node(mut self, out: &mut [u8]) -> Host {
-        let end = put_bytes(out, self.unwritten, b"= none\n");
+    pub fn without_node<W: Write>(mut self, to: &mut W, out: &mut [u8]) -> Host {
+        let end = put_bytes(to, out, self.unwritten, b"= none\n");
         self.unwritten = end;
         self
     }
 
     // The line's number stands before an answer, where that is asked for.
-    fn numbered(mut self, out: &mut [u8]) -> Host {
+    fn numbered<W: Write>(mut self, to: &mut W, out: &mut [u8]) -> Host {
         if !self.is_numbered {
             return self;
         }
-        let number = put_number(out, self.unwritten, self.line);
-        let start = put_byte(out, number, b' ');
+        let number = put_number(to, out, self.unwritten, self.line);
+        let start = put_byte(to, out, number, b' ');
         self.unwritten = start;
         self
     }
 
     // A call, before it is answered.
-    pub fn called(mut self, out: &mut [u8]) -> Host {
+    pub fn called<W: Write>(mut self, to: &mut W, out: &mut [u8]) -> Host {
         self.calls = std::num::wrapping_add_u64(self.calls, 1);
-        self.numbered(out)
+        self.numbered(to, out)
     }
 
     // A line that is not of the form.
-    pub fn at_odds(self, out: &mut [u8]) -> Host {
-        let mut host = self.numbered(out);
+    pub fn at_odds<W: Write>(self, to: &mut W, out: &mut [u8]) -> Host {
+        let mut host = self.numbered(to, out);
         host.malformed = std::num::wrapping_add_u64(host.malformed, 1);
-        let mark = put_byte(out, host.unwritten, b'?');
-        let number = put_marked(out, mark, b' ', host.line);
-        let end = put_byte(out, number, b'\n');
+        let mark = put_byte(to, out, host.unwritten, b'?');
+        let number = put_marked(to, out, mark, b' ', host.line);
+        let end = put_byte(to, out, number, b'\n');
         host.unwritten = end;
         host
     }

@@ -4,8 +4,9 @@
 
 mod tell;
 
-use libc::STDIN_FILENO;
+use intake::read_full;
 use report::flush;
+use std::io::Write;
 use tell::{Tally, put_case, put_tally, tallied};
 
 fn mask(bit: usize) -> u8 {
@@ -29,75 +30,105 @@ fn flip(image: &mut [u8], bit: usize) {
     }
 }
 
-fn flip_all(image: &mut [u8], bits: usize, out: &mut [u8], from: usize, res: &mut [u8]) -> usize {
+fn flip_all<W: Write>(
+    image: &mut [u8],
+    bits: usize,
+    to: &mut W,
+    out: &mut [u8],
+    from: usize,
+    res: &mut [u8],
+) -> usize {
     let mut at = from;
-    let mut bit: usize = 0;
-    while bit < bits {
+    for bit in 0..bits {
         flip(image, bit);
-        at = put_case(out, at, b"flip ", bit, image, res);
+        at = put_case(to, out, at, b"flip ", bit, image, res);
         flip(image, bit);
-        bit += 1;
     }
     at
 }
 
 // The first bytes of an image.
-fn put_cut(out: &mut [u8], at: usize, image: &[u8], length: usize, res: &mut [u8]) -> usize {
+fn put_cut<W: Write>(
+    to: &mut W,
+    out: &mut [u8],
+    at: usize,
+    image: &[u8],
+    length: usize,
+    res: &mut [u8],
+) -> usize {
     if length <= image.len() {
-        return put_case(out, at, b"cut ", length, &image[0..length], res);
+        return put_case(to, out, at, b"cut ", length, &image[0..length], res);
     }
     at
 }
 
-fn cut_all(image: &[u8], out: &mut [u8], from: usize, res: &mut [u8]) -> usize {
+fn cut_all<W: Write>(
+    image: &[u8],
+    to: &mut W,
+    out: &mut [u8],
+    from: usize,
+    res: &mut [u8],
+) -> usize {
     let mut at = from;
-    let mut length: usize = 0;
-    while length < image.len() {
-        at = put_cut(out, at, image, length, res);
-        length += 1;
+    for length in 0..image.len() {
+        at = put_cut(to, out, at, image, length, res);
     }
     at
 }
 
 fn tally_all(image: &mut [u8], bits: usize, res: &mut [u8]) -> Tally {
     let mut tally = Tally::none();
-    let mut bit: usize = 0;
-    while bit < bits {
+    for bit in 0..bits {
         flip(image, bit);
         let next = tallied(tally, image, res);
         tally = next;
         flip(image, bit);
-        bit += 1;
     }
     tally
 }
 
 // Every answer.
-fn tell_each(image: &mut [u8], bits: usize, out: &mut [u8], from: usize, res: &mut [u8]) -> usize {
-    let flipped = flip_all(image, bits, out, from, res);
-    cut_all(image, out, flipped, res)
+fn tell_each<W: Write>(
+    image: &mut [u8],
+    bits: usize,
+    to: &mut W,
+    out: &mut [u8],
+    from: usize,
+    res: &mut [u8],
+) -> usize {
+    let flipped = flip_all(image, bits, to, out, from, res);
+    cut_all(image, to, out, flipped, res)
 }
 
 // All answers in one line.
-fn sum_up(image: &mut [u8], bits: usize, out: &mut [u8], from: usize, res: &mut [u8]) -> usize {
+fn sum_up<W: Write>(
+    image: &mut [u8],
+    bits: usize,
+    to: &mut W,
+    out: &mut [u8],
+    from: usize,
+    res: &mut [u8],
+) -> usize {
     let tally = tally_all(image, bits, res);
-    put_tally(out, from, bits as u64, tally)
+    put_tally(to, out, from, bits as u64, tally)
 }
 
-fn main() {
+fn main(rt: HostRuntime) {
     let mut small = [0u8; 66];
     let mut mixed = [0u8; 110];
     let mut full = [0u8; 1103];
     let mut wide = [0u8; 1818];
-    let mut out = io::large_buffer();
-    let mut result = io::buffer();
-    io::read_full(STDIN_FILENO, &mut small);
-    io::read_full(STDIN_FILENO, &mut mixed);
-    io::read_full(STDIN_FILENO, &mut full);
-    io::read_full(STDIN_FILENO, &mut wide);
-    let told = tell_each(&mut small, 528, &mut out, 0, &mut result);
-    let both = tell_each(&mut mixed, 880, &mut out, told, &mut result);
-    let summed = sum_up(&mut full, 8824, &mut out, both, &mut result);
-    let end = sum_up(&mut wide, 14544, &mut out, summed, &mut result);
-    flush(&mut out, end);
+    let mut out = [0u8; 65536];
+    let mut result = [0u8; 4096];
+    let mut from = rt.stdin();
+    let mut to = rt.stdout();
+    read_full(&mut from, &mut small);
+    read_full(&mut from, &mut mixed);
+    read_full(&mut from, &mut full);
+    read_full(&mut from, &mut wide);
+    let told = tell_each(&mut small, 528, &mut to, &mut out, 0, &mut result);
+    let both = tell_each(&mut mixed, 880, &mut to, &mut out, told, &mut result);
+    let summed = sum_up(&mut full, 8824, &mut to, &mut out, both, &mut result);
+    let end = sum_up(&mut wide, 14544, &mut to, &mut out, summed, &mut result);
+    flush(&mut to, &mut out, end);
 }

@@ -1,67 +1,80 @@
 // The tool for the person at the rack: an image on standard input, what can be kept of it on standard output, and a line for each place on standard error.
-// A program gives no exit code of its own: its digit goes to descriptor 3, for `bin/salvage`.
 #![tactic(auto)]
 
 mod tell;
 
-use libc::{STDERR_FILENO, STDIN_FILENO, STDOUT_FILENO};
+use intake::read_full;
 use salvage::Ends;
+use std::io::Write;
+use std::process::ExitCode;
 use tell::{any_dropped, put_places, put_refusal};
 
-// The descriptor that takes the exit code.
+// How a salvage ended.
 #[derive(Clone, Copy)]
-struct Code {
-    fd: i32,
+enum Code {
+    NothingDropped,
+    SomethingDropped,
+    Refused,
+    OutputLost,
 }
 
-impl Code {
-    const FD: i32 = 3;
-}
-
-// Nothing dropped, something dropped, refused, output lost.
-fn end(code: u8) {
-    let text = [code; 1];
-    io::write_all(Code::FD, &text);
+fn end(code: Code) -> ExitCode {
+    match code {
+        Code::NothingDropped => ExitCode::from(0),
+        Code::SomethingDropped => ExitCode::from(1),
+        Code::Refused => ExitCode::from(3),
+        Code::OutputLost => ExitCode::from(4),
+    }
 }
 
 // Whether the first bytes of a row got through.
-fn hand_over(fd: i32, bytes: &[u8], length: usize) -> bool {
+fn hand_over<W: Write>(to: &mut W, bytes: &[u8], length: usize) -> bool {
     if length <= bytes.len() {
-        return io::write_all(fd, &bytes[0..length]);
+        return to.write_all(&bytes[0..length]).is_ok();
     }
     false
 }
 
-fn salvage_all(image: &[u8], out: &mut [u8], text: &mut [u8]) {
+fn salvage_all<W: Write, E: Write>(
+    to: &mut W,
+    err: &mut E,
+    image: &[u8],
+    out: &mut [u8],
+    text: &mut [u8],
+) -> Code {
     let done = salvage::salvage(image, out);
     let ends = done.ends;
     match ends {
         Ends::Whole(length) => {
-            let told = put_places(text, image, done);
-            let is_told = hand_over(STDERR_FILENO, text, told);
-            if !model::both(hand_over(STDOUT_FILENO, out, length), is_told) {
-                end(b'4');
-                return;
+            let told = put_places(err, text, image, done);
+            let is_told = hand_over(err, text, told);
+            if !model::both(hand_over(to, out, length), is_told) {
+                return Code::OutputLost;
             }
             if any_dropped(done) {
-                end(b'1');
-                return;
+                return Code::SomethingDropped;
             }
-            end(b'0');
+            Code::NothingDropped
         }
         Ends::Refused(refusal) => {
-            let told = put_refusal(text, refusal);
-            hand_over(STDERR_FILENO, text, told);
-            end(b'3');
+            let told = put_refusal(err, text, refusal);
+            hand_over(err, text, told);
+            Code::Refused
         }
     }
 }
 
 // No place is read past the first 4096 bytes: an image has 1818 at most, and whatever follows is ignored.
-fn main() {
-    let mut space = io::buffer();
-    let mut out = io::buffer();
-    let mut text = io::large_buffer();
-    let got = io::read_full(STDIN_FILENO, &mut space);
-    salvage_all(&space[..got], &mut out, &mut text);
+fn main(rt: HostRuntime) -> ExitCode {
+    let mut space = [0u8; 4096];
+    let mut out = [0u8; 4096];
+    let mut text = [0u8; 65536];
+    let got = read_full(&mut rt.stdin(), &mut space);
+    end(salvage_all(
+        &mut rt.stdout(),
+        &mut rt.stderr(),
+        &space[..got],
+        &mut out,
+        &mut text,
+    ))
 }

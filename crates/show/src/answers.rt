@@ -5,22 +5,28 @@ use crate::state::least;
 use model::Reply;
 use node::{Answer, Letter};
 use report::{put_byte, put_bytes, put_message, put_number, put_record, put_reply};
+use std::io::Write;
 use types::{Event, Gossip};
 
 // The records of a message stand one after the other in the row.
-fn put_records(out: &mut [u8], from: usize, rows: [Gossip; 256], first: usize, end: usize) -> usize
+fn put_records<W: Write>(
+    to: &mut W,
+    out: &mut [u8],
+    from: usize,
+    rows: [Gossip; 256],
+    first: usize,
+    end: usize,
+) -> usize
     requires { end ≤ 256 }
 {
     let mut at = from;
-    let mut i = first;
-    while i < end {
+    for i in first..end {
         let g = rows[i];
         let event = g.event;
-        let start = put_byte(out, at, b' ');
-        at = put_record(out, start, event);
-        i += 1;
+        let start = put_byte(to, out, at, b' ');
+        at = put_record(to, out, start, event);
     }
-    put_byte(out, at, b'\n')
+    put_byte(to, out, at, b'\n')
 }
 
 // Where the records of the next message start.
@@ -36,7 +42,8 @@ fn end_of(first: usize, count: usize) -> usize
 }
 
 // The messages in sending order, their records packed in the row.
-fn put_letters(
+fn put_letters<W: Write>(
+    to: &mut W,
     out: &mut [u8],
     from: usize,
     letters: [Letter; 4],
@@ -47,60 +54,74 @@ fn put_letters(
 {
     let mut at = from;
     let mut first: usize = 0;
-    let mut i = 0;
-    while i < sent {
+    for i in 0..sent {
         let letter = letters[i];
         let action = letter.action;
         let end = end_of(first, letter.count);
-        let start = put_message(out, at, letter.target, action);
-        at = put_records(out, start, rows, first, end);
+        let start = put_message(to, out, at, letter.target, action);
+        at = put_records(to, out, start, rows, first, end);
         first = end;
-        i += 1;
     }
     at
 }
 
 // The answer's own line, and the messages.
-pub fn put_answer(out: &mut [u8], at: usize, answer: Answer, rows: [Gossip; 256]) -> usize {
+pub fn put_answer<W: Write>(
+    to: &mut W,
+    out: &mut [u8],
+    at: usize,
+    answer: Answer,
+    rows: [Gossip; 256],
+) -> usize {
     let reply = answer.reply;
     let letters = answer.letters;
-    let told = put_reply(out, at, reply);
-    put_letters(out, told, letters, least(answer.sent, 4), rows)
+    let told = put_reply(to, out, at, reply);
+    put_letters(to, out, told, letters, least(answer.sent, 4), rows)
 }
 
-fn put_event(out: &mut [u8], at: usize, event: Event) -> usize {
-    let mark = put_bytes(out, at, b"! ");
-    let record = put_record(out, mark, event);
-    put_byte(out, record, b'\n')
+fn put_event<W: Write>(to: &mut W, out: &mut [u8], at: usize, event: Event) -> usize {
+    let mark = put_bytes(to, out, at, b"! ");
+    let record = put_record(to, out, mark, event);
+    put_byte(to, out, record, b'\n')
 }
 
 // The events that a message's call reports.
-pub fn put_events(out: &mut [u8], from: usize, events: [Gossip; 65], reported: usize) -> usize
+pub fn put_events<W: Write>(
+    to: &mut W,
+    out: &mut [u8],
+    from: usize,
+    events: [Gossip; 65],
+    reported: usize,
+) -> usize
     requires { reported ≤ 65 }
 {
     let mut at = from;
-    let mut i = 0;
-    while i < reported {
+    for i in 0..reported {
         let g = events[i];
         let event = g.event;
-        at = put_event(out, at, event);
-        i += 1;
+        at = put_event(to, out, at, event);
     }
     at
 }
 
 // The event that a step or a timer call may report.
-pub fn put_one(out: &mut [u8], at: usize, events: [Gossip; 1], reported: usize) -> usize {
+pub fn put_one<W: Write>(
+    to: &mut W,
+    out: &mut [u8],
+    at: usize,
+    events: [Gossip; 1],
+    reported: usize,
+) -> usize {
     if reported == 0 {
         return at;
     }
     let g = events[0];
     let event = g.event;
-    put_event(out, at, event)
+    put_event(to, out, at, event)
 }
 
 // How many held events a kept call collected, where the node collects.
-pub fn put_collected(out: &mut [u8], at: usize, answer: Answer) -> usize {
+pub fn put_collected<W: Write>(to: &mut W, out: &mut [u8], at: usize, answer: Answer) -> usize {
     if !answer.node.settings.collect {
         return at;
     }
@@ -108,9 +129,9 @@ pub fn put_collected(out: &mut [u8], at: usize, answer: Answer) -> usize {
     let Reply::Done(_) = reply else {
         return at;
     };
-    let mark = put_bytes(out, at, b"~ ");
-    let number = put_number(out, mark, answer.collected as u64);
-    put_byte(out, number, b'\n')
+    let mark = put_bytes(to, out, at, b"~ ");
+    let number = put_number(to, out, mark, answer.collected as u64);
+    put_byte(to, out, number, b'\n')
 }
 
 // A message's row, at the length of a step's row.
@@ -119,10 +140,8 @@ pub fn widen(rows: [Gossip; 64]) -> [Gossip; 256] {
         event: Event::Nothing,
     };
     let mut wide = [nothing; 256];
-    let mut i = 0;
-    while i < 64 {
+    for i in 0..64 {
         wide[i] = rows[i];
-        i += 1;
     }
     wide
 }

@@ -10,22 +10,23 @@ use model::{Reply, Settings};
 use node::Node;
 use report::{put_byte, put_marked, put_marked_address};
 use show::least;
+use std::io::Write;
 use text::{Command, Records};
 use timers::Ending;
 use types::{Action, Gossip};
 use wait::{Wait, WaitState};
 
 // A mark alone: a line that is not of the form (`?`), a call without a node (`0`), a wait record that was lent (`w`).
-fn marked(mut host: Host, mark: u8, out: &mut [u8]) -> Host {
-    let at = put_mark(out, host.unwritten, host.line, mark);
-    let end = put_byte(out, at, b'\n');
+fn marked<W: Write>(mut host: Host, mark: u8, to: &mut W, out: &mut [u8]) -> Host {
+    let at = put_mark(to, out, host.unwritten, host.line, mark);
+    let end = put_byte(to, out, at, b'\n');
     host.unwritten = end;
     host
 }
 
-fn malformed(mut host: Host, out: &mut [u8]) -> Host {
+fn malformed<W: Write>(mut host: Host, to: &mut W, out: &mut [u8]) -> Host {
     host.malformed = std::num::wrapping_add_u64(host.malformed, 1);
-    marked(host, b'?', out)
+    marked(host, b'?', to, out)
 }
 
 // The number of a refusal, 0 where a reply is none.
@@ -42,99 +43,123 @@ fn refusal_of(reply: Reply) -> u8 {
 }
 
 // A refused call is told by its number.
-fn replied(mut host: Host, reply: Reply, out: &mut [u8]) -> Host {
+fn replied<W: Write>(mut host: Host, reply: Reply, to: &mut W, out: &mut [u8]) -> Host {
     if !is_refused(reply) {
         return host;
     }
-    let end = put_refused(out, host.unwritten, host.line, refusal_of(reply));
+    let end = put_refused(to, out, host.unwritten, host.line, refusal_of(reply));
     host.unwritten = end;
     host
 }
 
 // Who is listed, if there is a node.
-pub fn put_old(out: &mut [u8], at: usize, line: u64, node: Node, has_node: bool) -> usize {
+pub fn put_old<W: Write>(
+    to: &mut W,
+    out: &mut [u8],
+    at: usize,
+    line: u64,
+    node: Node,
+    has_node: bool,
+) -> usize {
     if has_node {
-        return put_listed(out, at, line, node);
+        return put_listed(to, out, at, line, node);
     }
     at
 }
 
 // A node that stood before is told to its end.
-fn ended(mut host: Host, out: &mut [u8]) -> Host {
-    let listed = put_old(out, host.unwritten, host.line, host.node, host.has_node);
+fn ended<W: Write>(mut host: Host, to: &mut W, out: &mut [u8]) -> Host {
+    let listed = put_old(to, out, host.unwritten, host.line, host.node, host.has_node);
     host.unwritten = listed;
     host.has_node = false;
     host
 }
 
-fn create(
+fn create<W: Write>(
     host: Host,
     settings: Settings,
     own: Address,
     number: u64,
     tick: u32,
+    to: &mut W,
     out: &mut [u8],
 ) -> Host {
-    let before = ended(host, out);
+    let before = ended(host, to, out);
     let answer = swim::create(settings, own, number);
     let reply = answer.reply;
     let node = answer.node;
     if is_refused(reply) {
-        return replied(before, reply, out);
+        return replied(before, reply, to, out);
     }
-    created(before, own, number, node, Wait::new(tick), out)
+    created(before, own, number, node, Wait::new(tick), to, out)
 }
 
 // A fresh node is told by its own address.
-fn created(
+fn created<W: Write>(
     mut host: Host,
     own: Address,
     number: u64,
     node: Node,
     wait: Wait,
+    to: &mut W,
     out: &mut [u8],
 ) -> Host {
-    let end = put_numbered(out, host.unwritten, host.line, b'n', own, number);
+    let end = put_numbered(to, out, host.unwritten, host.line, b'n', own, number);
     host.unwritten = end;
     host.renewed(node, wait)
 }
 
 // The listed addresses of a restored node are its first entries.
-fn restored(mut host: Host, node: Node, wait: Wait, out: &mut [u8]) -> Host {
-    let end = put_restored(out, host.unwritten, host.line, node);
+fn restored<W: Write>(mut host: Host, node: Node, wait: Wait, to: &mut W, out: &mut [u8]) -> Host {
+    let end = put_restored(to, out, host.unwritten, host.line, node);
     host.unwritten = end;
     host.renewed(node, wait)
 }
 
-fn restore(host: Host, settings: Settings, tick: u32, image: &[u8], out: &mut [u8]) -> Host {
-    let before = ended(host, out);
+fn restore<W: Write>(
+    host: Host,
+    settings: Settings,
+    tick: u32,
+    image: &[u8],
+    to: &mut W,
+    out: &mut [u8],
+) -> Host {
+    let before = ended(host, to, out);
     let back = swim::saved::restore(image, settings, tick);
     let answer = back.answer;
     let wait = back.wait;
     let reply = answer.reply;
     let node = answer.node;
     if is_refused(reply) {
-        return replied(before, reply, out);
+        return replied(before, reply, to, out);
     }
-    restored(before, node, wait, out)
+    restored(before, node, wait, to, out)
 }
 
 // The image's bytes, so many, stand at the front of their row.
-fn restore_first(
+fn restore_first<W: Write>(
     host: Host,
     settings: Settings,
     tick: u32,
     bytes: &[u8],
     length: usize,
+    to: &mut W,
     out: &mut [u8],
 ) -> Host {
     if length <= bytes.len() {
-        return restore(host, settings, tick, &bytes[0..length], out);
+        return restore(host, settings, tick, &bytes[0..length], to, out);
     }
-    malformed(host, out)
+    malformed(host, to, out)
 }
 
-fn add(mut host: Host, peer: Address, number: u64, draws: &[u64], out: &mut [u8]) -> Host {
+fn add<W: Write>(
+    mut host: Host,
+    peer: Address,
+    number: u64,
+    draws: &[u64],
+    to: &mut W,
+    out: &mut [u8],
+) -> Host {
     let none = Gossip::none();
     let done = accounts::add_peer(host.node, peer, number, draws);
     let answer = done.answer;
@@ -148,6 +173,7 @@ fn add(mut host: Host, peer: Address, number: u64, draws: &[u64], out: &mut [u8]
         start: 0,
     };
     let at = put_facts(
+        to,
         out,
         host.unwritten,
         told,
@@ -159,7 +185,7 @@ fn add(mut host: Host, peer: Address, number: u64, draws: &[u64], out: &mut [u8]
     );
     host.node = after;
     host.unwritten = at;
-    replied(host, reply, out)
+    replied(host, reply, to, out)
 }
 
 fn sender_of(action: Action) -> Address {
@@ -193,11 +219,12 @@ fn kind_of(action: Action) -> Kind {
     }
 }
 
-fn receive(
+fn receive<W: Write>(
     mut host: Host,
     action: Action,
     records: Records,
     draws: &[u64],
+    to: &mut W,
     out: &mut [u8],
 ) -> Host {
     let rooms = host.rooms;
@@ -225,6 +252,7 @@ fn receive(
         start: 0,
     };
     let at = put_facts(
+        to,
         out,
         host.unwritten,
         told,
@@ -236,11 +264,12 @@ fn receive(
     );
     host.node = after;
     host.unwritten = at;
-    replied(host, reply, out)
+    replied(host, reply, to, out)
 }
 
-// A step that was made: a ping (`p`) or a ping request (`q`) that went out, a timer that was started (`t`).
-fn put_step(
+// A step that was made: a ping (`p`) or a ping request (`q`) that went to, out, a timer that was started (`t`).
+fn put_step<W: Write>(
+    to: &mut W,
     out: &mut [u8],
     at: usize,
     line: u64,
@@ -251,17 +280,19 @@ fn put_step(
     match before {
         WaitState::SendingPing => match after {
             WaitState::WaitingForPingAck { target, number: _ } => {
-                put_about(out, at, line, b'p', target)
+                put_about(to, out, at, line, b'p', target)
             }
             _ => at,
         },
-        WaitState::SendingPingReq { target, number: _ } => put_about(out, at, line, b'q', target),
+        WaitState::SendingPingReq { target, number: _ } => put_about(
+            to, out, at, line, b'q', target,
+        ),
         WaitState::Declaring { target, number } => {
-            let mark = put_mark(out, at, line, b't');
-            let whom = put_marked_address(out, mark, b' ', target);
-            let named = put_marked(out, whom, b' ', number);
-            let start = put_marked(out, named, b' ', now as u64);
-            put_byte(out, start, b'\n')
+            let mark = put_mark(to, out, at, line, b't');
+            let whom = put_marked_address(to, out, mark, b' ', target);
+            let named = put_marked(to, out, whom, b' ', number);
+            let start = put_marked(to, out, named, b' ', now as u64);
+            put_byte(to, out, start, b'\n')
         }
         _ => at,
     }
@@ -274,7 +305,7 @@ fn is_done(reply: Reply) -> bool {
     }
 }
 
-fn step(mut host: Host, now: u32, draws: &[u64], out: &mut [u8]) -> Host {
+fn step<W: Write>(mut host: Host, now: u32, draws: &[u64], to: &mut W, out: &mut [u8]) -> Host {
     let held = host.wait;
     let before = held.state;
     let rooms = host.rooms;
@@ -298,9 +329,9 @@ fn step(mut host: Host, now: u32, draws: &[u64], out: &mut [u8]) -> Host {
     host.node = node;
     host.wait = wait;
     if !is_done(reply) {
-        return replied(host, reply, out);
+        return replied(host, reply, to, out);
     }
-    let at = put_step(out, host.unwritten, host.line, before, after, now);
+    let at = put_step(to, out, host.unwritten, host.line, before, after, now);
     host.unwritten = at;
     host
 }
@@ -327,7 +358,7 @@ fn start_of(node: Node, now: u32) -> u32 {
     }
 }
 
-fn end_timer(mut host: Host, now: u32, out: &mut [u8]) -> Host {
+fn end_timer<W: Write>(mut host: Host, now: u32, to: &mut W, out: &mut [u8]) -> Host {
     let rooms = host.rooms;
     let lent = rows_for(rooms, 0, 1);
     let none = Gossip::none();
@@ -347,6 +378,7 @@ fn end_timer(mut host: Host, now: u32, out: &mut [u8]) -> Host {
     let mut row = [none; 65];
     row[0] = events[0];
     let at = put_facts(
+        to,
         out,
         host.unwritten,
         told,
@@ -358,19 +390,26 @@ fn end_timer(mut host: Host, now: u32, out: &mut [u8]) -> Host {
     );
     host.node = after;
     host.unwritten = at;
-    replied(host, reply, out)
+    replied(host, reply, to, out)
 }
 
 // A call on the node.
-fn call(host: Host, command: Command, records: Records, draws: &[u64], out: &mut [u8]) -> Host {
+fn call<W: Write>(
+    host: Host,
+    command: Command,
+    records: Records,
+    draws: &[u64],
+    to: &mut W,
+    out: &mut [u8],
+) -> Host {
     if !host.has_node {
-        return marked(host, b'0', out);
+        return marked(host, b'0', to, out);
     }
     match command {
-        Command::Add { peer, number } => add(host, peer, number, draws, out),
-        Command::Message(action) => receive(host, action, records, draws, out),
-        Command::Step { now } => step(host, now, draws, out),
-        Command::Timer { now } => end_timer(host, now, out),
+        Command::Add { peer, number } => add(host, peer, number, draws, to, out),
+        Command::Message(action) => receive(host, action, records, draws, to, out),
+        Command::Step { now } => step(host, now, draws, to, out),
+        Command::Timer { now } => end_timer(host, now, to, out),
         _ => host,
     }
 }
@@ -381,24 +420,25 @@ fn counted(mut host: Host) -> Host {
 }
 
 // Tells of a line what its call did.
-pub fn tell(
+pub fn tell<W: Write>(
     host: Host,
     command: Command,
     records: Records,
     draws: &[u64],
     bytes: &[u8],
     length: usize,
+    to: &mut W,
     out: &mut [u8],
 ) -> Host {
     match command {
-        Command::Malformed => malformed(host, out),
+        Command::Malformed => malformed(host, to, out),
         Command::New {
             settings,
             own,
             number,
             tick,
-        } => create(counted(host), settings, own, number, tick, out),
-        Command::Wait { phase, tick } => lend_wait(marked(host, b'w', out), phase, tick),
+        } => create(counted(host), settings, own, number, tick, to, out),
+        Command::Wait { phase, tick } => lend_wait(marked(host, b'w', to, out), phase, tick),
         Command::Rows { gossip, events } => lend_rows(host, gossip, events),
         Command::Read { places: _ } => counted(host),
         Command::Write { room: _, action: _ } => counted(host),
@@ -411,8 +451,9 @@ pub fn tell(
             tick,
             bytes,
             length,
+            to,
             out,
         ),
-        _ => call(counted(host), command, records, draws, out),
+        _ => call(counted(host), command, records, draws, to, out),
     }
 }

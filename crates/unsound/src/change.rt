@@ -20,14 +20,12 @@ use words::{NumberAt, number_at};
 fn numbers_at(s: &[u8], from: usize) -> [u64; 8] {
     let mut numbers = [0u64; 8];
     let mut at = from;
-    let mut i = 0;
-    while i < 8 {
+    for i in 0..8 {
         let NumberAt::Found { value, next } = number_at(s, at) else {
             return numbers;
         };
         numbers[i] = value;
         at = next;
-        i += 1;
     }
     numbers
 }

@@ -9,9 +9,10 @@ mod tell;
 ghost use Rattle.std.specs.Prelude.{◌≡◌, ◌+◌, ◌≤◌, length};
 
 use change::changed;
-use libc::{STDIN_FILENO, STDOUT_FILENO};
+use intake::read_full;
 use made::sound;
 use node::Node;
+use std::io::Write;
 use tell::tell;
 use words::find;
 
@@ -36,23 +37,23 @@ fn changed_by(line: &[u8], clause: usize) -> Node {
     node
 }
 
-fn tell_line(line: &[u8]) {
+fn tell_line<W: Write>(to: &mut W, line: &[u8]) {
     let bar = find(line, 0, b'|');
-    io::write_all(STDOUT_FILENO, &line[0..bar]);
-    tell(changed_by(line, past(line, bar)));
+    let _ = to.write_all(&line[0..bar]);
+    tell(to, changed_by(line, past(line, bar)));
 }
 
-fn tell_all(lines: &[u8]) {
+fn tell_all<W: Write>(to: &mut W, lines: &[u8]) {
     let mut at = 0;
     while at < lines.len() {
         let feed = find(lines, at, b'\n');
-        tell_line(&lines[at..feed]);
+        tell_line(to, &lines[at..feed]);
         at = past(lines, feed);
     }
 }
 
-fn main() {
-    let mut lines = io::large_buffer();
-    let got = io::read_full(STDIN_FILENO, &mut lines);
-    tell_all(&lines[..got]);
+fn main(rt: HostRuntime) {
+    let mut lines = [0u8; 65536];
+    let got = read_full(&mut rt.stdin(), &mut lines);
+    tell_all(&mut rt.stdout(), &lines[..got]);
 }

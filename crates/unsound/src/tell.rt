@@ -1,8 +1,8 @@
 // A node is handed to each of those calls, and the refusals' numbers are written; 0 is no refusal.
 use crate::made::at;
-use libc::STDOUT_FILENO;
 use model::Reply;
 use node::Node;
+use std::io::Write;
 use types::{Action, Gossip, Optional};
 use wait::Wait;
 use why::Grounds;
@@ -19,19 +19,19 @@ fn refusal(reply: Reply) -> u64 {
     }
 }
 
-fn tell_refusal(reply: Reply) {
-    io::write_all(STDOUT_FILENO, b" ");
-    io::print_decimal(STDOUT_FILENO, refusal(reply));
+fn tell_refusal<W: Write>(to: &mut W, reply: Reply) {
+    let number = refusal(reply);
+    let _ = write!(to, " {number}");
 }
 
-fn tell_add(node: Node) {
+fn tell_add<W: Write>(to: &mut W, node: Node) {
     let draws = [0u64; 1];
     let answer = node::add_peer(node, at(7), 0, &draws);
     let reply = answer.reply;
-    tell_refusal(reply);
+    tell_refusal(to, reply);
 }
 
-fn tell_message(node: Node) {
+fn tell_message<W: Write>(to: &mut W, node: Node) {
     let nothing = Gossip::none();
     let rows = [nothing; 64];
     let draws = [0u64; 1];
@@ -39,26 +39,26 @@ fn tell_message(node: Node) {
     let received = message::receive(node, action, rows, 0, &draws, 64, 65);
     let answer = received.answer;
     let reply = answer.reply;
-    tell_refusal(reply);
+    tell_refusal(to, reply);
 }
 
 // Not due yet.
-fn tell_step(node: Node) {
+fn tell_step<W: Write>(to: &mut W, node: Node) {
     let draws = [0u64; 1];
     let stepped = detection::step(node, Wait::new(0), 5, &draws, 256, 1);
     let answer = stepped.answer;
     let reply = answer.reply;
-    tell_refusal(reply);
+    tell_refusal(to, reply);
 }
 
-fn tell_timer(node: Node) {
+fn tell_timer<W: Write>(to: &mut W, node: Node) {
     let ended = timer_call::end_timer(node, 55, 0, 1);
     let answer = ended.answer;
     let reply = answer.reply;
-    tell_refusal(reply);
+    tell_refusal(to, reply);
 }
 
-fn tell_why(node: Node) {
+fn tell_why<W: Write>(to: &mut W, node: Node) {
     let draws = [0u64; 1];
     let grounds = why::why(node, &draws, Gossip::none());
     match grounds {
@@ -67,16 +67,16 @@ fn tell_why(node: Node) {
             held: _,
             number: _,
             dead: _,
-        } => tell_refusal(Reply::Done(0)),
-        Grounds::Refused(refusal) => tell_refusal(Reply::Refused(refusal)),
+        } => tell_refusal(to, Reply::Done(0)),
+        Grounds::Refused(refusal) => tell_refusal(to, Reply::Refused(refusal)),
     }
 }
 
-pub fn tell(node: Node) {
-    tell_add(node);
-    tell_message(node);
-    tell_step(node);
-    tell_timer(node);
-    tell_why(node);
-    io::write_all(STDOUT_FILENO, b"\n");
+pub fn tell<W: Write>(to: &mut W, node: Node) {
+    tell_add(to, node);
+    tell_message(to, node);
+    tell_step(to, node);
+    tell_timer(to, node);
+    tell_why(to, node);
+    let _ = to.write_all(b"\n");
 }
