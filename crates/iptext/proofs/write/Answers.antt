@@ -1,6 +1,5 @@
 -- `iptext::write` meets its contract: by family.
 -- Assumes nothing.
-use borrow.Author.Rules.{rules}
 use Rattle.iptext.specs.Saying.{six-room, four-room, six-laid, four-laid}
 use Rattle.iptext.proofs.write.Goals as goal
 
