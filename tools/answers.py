@@ -31,6 +31,7 @@ class Function:
             self.places[flat(old)] = (flat(parent) if parent else None, flat(was), now, new, arm)
             self.raw[flat(old)] = old
             self.clauses[now] = (clause or {}).get("fields") or []
+        self.handed = " tie.handed_clauses" if any(it["clauses"]) else ""
         self.asked = {new for _, new in it["asked_at"]}
         self.goals = [(old, new) for old, new in it["needs"]]
         self.at = [flat(a) for a, _ in it["asked_at"]]
@@ -152,6 +153,7 @@ class Turner:
             if not parts:
                 return m[0]
             name, rest = parts[0], parts[1:]
+            name = "requires" if name == "pre" else name
             if name in ("args", "requires", "well_formed", "ranges"):
                 if rest and name in ("args", "ranges"):
                     rest[0] = self.f.args.get(rest[0], rest[0])
@@ -162,7 +164,7 @@ class Turner:
                 return ".".join([var] + parts)
             rest = rest[found[1] :]
             if found[0].startswith("if-") and rest:
-                rest[0] = {"taken": "true", "left": "false"}.get(rest[0], rest[0])
+                rest[0] = {"taken": "true", "left": "false", "came": "branch"}.get(rest[0], rest[0])
             fields = self.f.clauses.get(found[0], [])
             if fields and rest[:1] == ["ensures"]:
                 if len(fields) == 1:
@@ -202,7 +204,7 @@ class Turner:
         return text
 
     def place(self, text):
-        m = re.search(r"tie\.((?:After|Then|Else|At|In|Start)[^\s()]*)", text)
+        m = re.search(r"tie\.((?:After|Then|Else|At|In|Start|Joined|Untold)[^\s()]*)", text)
         return flat(m[1]) if m and flat(m[1]) in self.f.places else None
 
     def types(self, text):
@@ -214,10 +216,10 @@ class Turner:
                     return "goal." + new
                 self.inner = True
                 loops = "".join(f" goal.the-invariant-{n[1]} goal.the-decreases-{n[1]}" for n, _ in self.f.loops)
-                return f"lts.{self.f.raw[p]} tie.the-claims reads.Pre reads.Post{loops}"
+                return f"lts.{self.f.raw[p]} tie.the-claims reads.Pre reads.Post{loops}{self.f.handed}"
             return m[0]
 
-        text = re.sub(r"tie\.((?:After|Then|Else|At|In|Start)[^\s()]*)(?: invariant-\S+?(?=[ )])| decreases-\S+?(?=[ )]))*", one, text)
+        text = re.sub(r"tie\.((?:After|Then|Else|At|In|Start|Joined|Untold)[^\s()]*)(?: invariant-\S+?(?=[ )])| decreases-\S+?(?=[ )]))*", one, text)
         return re.sub(r" (?:invariant|decreases)-[^\s()]+", "", text) if "tie." not in text.replace("tie.the-claims", "") else text
 
     def invariant(self, block):
@@ -416,6 +418,8 @@ def turn(path, function, crate):
             p = t.place(b)
             if p:
                 t.helpers[name_of(b)] = p
+                if name_of(b) == "module" or b.lstrip("-").startswith("module") or re.search(r"(?m)^module _", b):
+                    t.helpers.update({n: p for n in re.findall(rf"(?m)^  ({WORD}) :", b)})
     loops = {}
     for b in decls[:-1]:
         code = [l for l in b.split("\n") if not l.startswith("--")]

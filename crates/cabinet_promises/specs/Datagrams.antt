@@ -26,7 +26,7 @@ use Rattle.outgoing.specs.declared.Writing.{Writing}
 use Rattle.outgoing.specs.declared.Writing.TheVariants as writing
 use Rattle.incoming.specs.Encode.{encode}
 use Rattle.outgoing.specs.Outgoing.{writing_of, row_after}
-use Rattle.datagram.specs.Contracts.{Reads, Writes}
+use Rattle.datagram.specs.Promises.{Reads, Writes}
 use Rattle.datagram_promises.specs.Back.{AllWide, read_back}
 use Rattle.datagram_promises.specs.Exactly.{read_whole, read_row, write_whole}
 use Rattle.node.specs.Views.{view_node}

@@ -15,7 +15,7 @@ use Rattle.types.specs.declared.Gossip.{Gossip}
 use Rattle.types.specs.Views.{to_gossip, from_gossip, to_optional, from_optional, to_action, from_action, to_from_gossips}
 use Rattle.node.specs.declared.Letter.{Letter}
 use Rattle.node.specs.Views.{stored_view, from_message}
-use Rattle.swim.specs.Contracts.{row_after}
+use Rattle.swim.specs.Promises.{row_after}
 use Rattle.promises.specs.Made.{Held, Said, Made, adds, receives, steps, ends_timer, lends}
 use Rattle.promises.specs.Runs.{seen, made_is}
 

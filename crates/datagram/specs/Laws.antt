@@ -19,7 +19,7 @@ use Rattle.incoming.specs.Encode.{encode}
 use Rattle.outgoing.specs.declared.Writing.{Writing}
 use Rattle.outgoing.specs.declared.Writing.TheVariants.{Whole, Refused}
 use Rattle.outgoing.specs.Outgoing.{writing_of, row_after, Sends}
-use Rattle.datagram.specs.Contracts.{Reads, Writes}
+use Rattle.datagram.specs.Promises.{Reads, Writes}
 
 -- the records that were taken, written over the first places of the lent row
 pub reads-taken : (bytes : List ℕ) (lent ws : List Gossip) (t : Taken) → Takes bytes (length lent) t → ws ≡ take t.count t.row ++ drop t.count lent → Reads bytes lent t.answer ws

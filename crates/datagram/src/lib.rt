@@ -2,7 +2,7 @@
 #![tactic(auto)]
 
 ghost use Rattle.std.specs.Prelude.{◌≡◌};
-ghost use Rattle.datagram.specs.Contracts.{Reads, Writes};
+ghost use Rattle.datagram.specs.Promises.{Reads, Writes};
 
 use incoming::Reading;
 use outgoing::Writing;

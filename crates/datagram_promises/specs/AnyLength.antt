@@ -36,7 +36,7 @@ use Rattle.incoming.specs.declared.Reading.{Reading}
 use Rattle.incoming.specs.declared.Reading.TheVariants as reading
 use Rattle.incoming.specs.Datagram.{Message, Decode, unsent, resumed, message_step, action_of, judge_made, judge_from, judge_of, finish, decode}
 use Rattle.incoming.specs.Stepping as message
-use Rattle.datagram.specs.Contracts.{Reads}
+use Rattle.datagram.specs.Promises.{Reads}
 use Rattle.datagram_promises.specs.Exactly.{read_whole, read_row}
 use Rattle.datagram_promises.specs.AnyField.{Holds, Numbers, OfAnyWire, shortest-number, shortest-bytes, number_field, number-long, number-some, number_found, bytes_field, bytes-long, bytes-some, bytes_found, bytes-content, passed_over}
 

@@ -23,7 +23,7 @@ use Rattle.incoming.specs.Encode.{encode}
 use Rattle.incoming.specs.Back.{Fit, Fits, none as no-gossip, more as one_more, FitOther, FitAction, Says, decode-encode}
 use Rattle.outgoing.specs.declared.Writing.{Writing}
 use Rattle.outgoing.specs.declared.Writing.TheVariants as writing
-use Rattle.datagram.specs.Contracts.{Reads, Writes}
+use Rattle.datagram.specs.Promises.{Reads, Writes}
 use Rattle.datagram_promises.specs.Exactly.{read_whole, read_row, write_whole, write_bytes}
 
 -- the number of an event is one of 64 bits, as every number of a host's is

@@ -23,7 +23,7 @@ use Rattle.incoming.specs.Encode.{encode}
 use Rattle.outgoing.specs.declared.Writing.{Writing}
 use Rattle.outgoing.specs.declared.Writing.TheVariants as writing
 use Rattle.outgoing.specs.Outgoing.{writing_of, row_after}
-use Rattle.datagram.specs.Contracts.{Reads, Writes, reading_number, writing_number}
+use Rattle.datagram.specs.Promises.{Reads, Writes, reading_number, writing_number}
 
 unlike : {B : Type 0} → true ≡ false → B
 unlike e = let z : ◌≡◌ {A = ℕ} 0 1 = cc in absurd (omega arith)

@@ -15,7 +15,7 @@ use Rattle.actions.specs.Action.{Acting, silent}
 use Rattle.incoming.specs.declared.Reading.{Reading}
 use Rattle.incoming.specs.declared.Reading.TheVariants as reading
 use Rattle.incoming.specs.Datagram.{Message, unsent}
-use Rattle.datagram.specs.Contracts.{Reads}
+use Rattle.datagram.specs.Promises.{Reads}
 use Rattle.datagram_promises.specs.AnyLength.{Fits, EventSays, event_end, event-from-by, event-subject-by, event-number-by, event-number, event_unknown, GossipSays, gossip-on, gossip_anew, ActionSays, action_from, action_other, action_record, with_record, DatagramSays, datagram_on, datagram_anew, read_alike}
 use Rattle.datagram_promises.specs.Skipped.{action_joined}
 

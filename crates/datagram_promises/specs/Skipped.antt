@@ -19,7 +19,7 @@ use Rattle.incoming.specs.declared.Decoded.TheVariants as decoded
 use Rattle.incoming.specs.declared.Reading.{Reading}
 use Rattle.incoming.specs.declared.Reading.TheVariants as reading
 use Rattle.incoming.specs.Datagram.{Message, Decode, unsent, finish, decode}
-use Rattle.datagram.specs.Contracts.{Reads, reading_number}
+use Rattle.datagram.specs.Promises.{Reads, reading_number}
 use Rattle.datagram_promises.specs.Exactly.{read_4}
 use Rattle.datagram_promises.specs.AnyField.{OfAnyWire}
 use Rattle.datagram_promises.specs.AnyLength.{Fits, ActionSays, action_end, action_from-by, action_other_by, action_record_by, action_record, action_unknown, gossip_end, DatagramSays, datagram_end, datagram_on-by, datagram_anew_by, datagram_on, datagram_anew, datagram_unknown, with_record, spelled, judged-same, read_alike}

@@ -36,7 +36,7 @@ use Rattle.incoming.specs.declared.Reading.{Reading}
 use Rattle.incoming.specs.Datagram.{Decode, unsent, action_of, judge_made, judge_from, judge_of, finish, decode}
 use Rattle.incoming.specs.Encode.{other_bytes, gossip_fields, fields_of, encode}
 use Rattle.incoming.specs.Back.{Fit, Fits, none, more, FitOther, FitAction, Says, gossips_short, fields-short}
-use Rattle.datagram.specs.Contracts.{Reads, reading_number}
+use Rattle.datagram.specs.Promises.{Reads, reading_number}
 use Rattle.datagram_promises.specs.Exactly.{read_4}
 use Rattle.datagram_promises.specs.AnyLength.{EventSays, event_end, event-from, event-subject, event-number, GossipSays, gossip_end, gossip_anew, ActionSays, action_end, action_from, action_other, action_record, with_record, DatagramSays, datagram_end, datagram_anew, spelled}
 

@@ -22,8 +22,8 @@ use Rattle.wait.specs.Views.{to_wait, from_wait, stepped_of}
 use Rattle.timer_call.specs.declared.Ended.{Ended}
 use Rattle.timer_call.specs.Views.{ended_of}
 use Rattle.swim.specs.declared.Outcome.{Outcome}
-use Rattle.swim.specs.Contracts as swim
-use Rattle.swim.specs.Contracts.{outcome_of, row_after, room, add_of, message_of, step_of, timer_of}
+use Rattle.swim.specs.Promises as swim
+use Rattle.swim.specs.Promises.{outcome_of, row_after, room, add_of, message_of, step_of, timer_of}
 use Rattle.promises.specs.Replies.{NotDone}
 use Rattle.promises.specs.Made.{Held, Said, Made, adds, receives, steps, ends_timer, lends, letters_of}
 use Rattle.promises.specs.Runs.{Runs, rests, makes}

@@ -30,7 +30,7 @@ use Rattle.outgoing.specs.declared.Writing.{Writing}
 use Rattle.outgoing.specs.declared.Writing.TheVariants as writing
 use Rattle.outgoing.specs.Outgoing.{Sends}
 use Rattle.outgoing.specs.Sending.{sends_bare}
-use Rattle.datagram.specs.Contracts as datagram
+use Rattle.datagram.specs.Promises as datagram
 use Rattle.datagram.specs.Laws.{writes_sent}
 use Rattle.cwords.specs.Reading.{Rows, settings_of, gossip_of, action_of, wait_of}
 use Rattle.cwords.specs.Writing.{gossip_words, action_words, wait_words, code_of}

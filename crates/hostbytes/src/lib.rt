@@ -4,7 +4,7 @@
 
 ghost use Rattle.std.specs.Prelude.{◌≡◌, map, ◌<◌};
 ghost use Rattle.cwords.specs.Reading.{rows, settings_of, gossip_of, action_of, node_of};
-ghost use Rattle.datagram.specs.Contracts as datagram;
+ghost use Rattle.datagram.specs.Promises as datagram;
 ghost use Rattle.saving.specs.Views.{restored_of};
 ghost use Rattle.hostbytes.specs.Promised.{Saves, Restores, said_word, Salvages, place_word, Reads, Writes};
 

@@ -2,7 +2,7 @@
 #![tactic(auto)]
 
 ghost use Rattle.std.specs.Prelude.{◌≤◌, ◌≡◌, take, drop};
-ghost use Rattle.swim.specs.Contracts.{Receives, Steps, EndsTimer};
+ghost use Rattle.swim.specs.Promises.{Receives, Steps, EndsTimer};
 
 use node::{Answer, Node};
 use types::{Action, Gossip};

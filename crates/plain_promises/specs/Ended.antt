@@ -28,7 +28,7 @@ use Rattle.node.specs.declared.Node.{Node}
 use Rattle.node.specs.Views.{stored_view, view_node, pack_node, answer_of}
 use Rattle.node.specs.Rows.{loaded_view, unstored_pack, sound_pack}
 use Rattle.swim.specs.declared.Outcome.{Outcome}
-use Rattle.swim.specs.Contracts.{outcome_of, row_after, timer_of, EndsTimer}
+use Rattle.swim.specs.Promises.{outcome_of, row_after, timer_of, EndsTimer}
 use Rattle.promises.specs.Firsts.{Passed}
 use Rattle.promises.specs.Stops.{Refutes, IsGone}
 use Rattle.promises.specs.Plainly.{end_refuted, end_gone}

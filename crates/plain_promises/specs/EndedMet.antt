@@ -22,7 +22,7 @@ use Rattle.types.specs.Views.{no_gossip}
 use Rattle.node.specs.declared.Node.{Node}
 use Rattle.node.specs.Views.{stored_view, unstored, answer_of}
 use Rattle.swim.specs.declared.Outcome.{Outcome}
-use Rattle.swim.specs.Contracts.{outcome_of, row_after, timer_of}
+use Rattle.swim.specs.Promises.{outcome_of, row_after, timer_of}
 use Rattle.plain_promises.specs.Ended.{TookNobodyOut, refuted_takes_nobody, gone_takes_nobody}
 
 -- 10.0.0.h:7000

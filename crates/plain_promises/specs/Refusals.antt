@@ -26,7 +26,7 @@ use Rattle.node.specs.Views.{stored_view}
 use Rattle.wait.specs.declared.Wait.{Wait}
 use Rattle.wait.specs.Views.{to_wait}
 use Rattle.swim.specs.declared.Outcome.{Outcome}
-use Rattle.swim.specs.Contracts.{Adds, Receives, Steps, EndsTimer}
+use Rattle.swim.specs.Promises.{Adds, Receives, Steps, EndsTimer}
 use Rattle.promises.specs.Firsts.{FirstFails, fails, passes, Among, first-among}
 use Rattle.laws_node.specs.Good.{FullRows}
 use Rattle.promises.specs.Exactly.{add_exactly, receive_exactly, step_exactly, end_timer_exactly}

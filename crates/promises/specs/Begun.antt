@@ -23,7 +23,7 @@ use Rattle.saving.specs.Views.{restored_as, restored_of}
 use Rattle.saving.specs.declared.Restored.{Restored}
 use Rattle.laws_saving.specs.Laws.{accepted, gave_restart}
 use Rattle.laws_saving.specs.Laws.{Accepted as ListAccepted}
-use Rattle.swim.specs.Contracts.{Creates}
+use Rattle.swim.specs.Promises.{Creates}
 use Rattle.promises.specs.Replies.{not_zero}
 use Rattle.promises.specs.Made.{Accepted}
 use Rattle.promises.specs.Runs.{stored-unstored}

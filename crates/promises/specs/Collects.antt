@@ -17,7 +17,7 @@ use Rattle.history.specs.Histories.{World, Call, Add, Receive, Step, Timer, mome
 use Rattle.history.specs.Taken.{collected_in, collected_is, Pushed, heaps_are}
 use Rattle.history.specs.Uncollected.{off-collects-none}
 use Rattle.swim.specs.declared.Outcome.{Outcome}
-use Rattle.swim.specs.Contracts.{outcome_of, room, Adds, Receives, Steps, EndsTimer}
+use Rattle.swim.specs.Promises.{outcome_of, room, Adds, Receives, Steps, EndsTimer}
 
 module _ (node : Node) (wait : Wait) where
   -- what a call is handed

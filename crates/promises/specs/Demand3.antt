@@ -36,7 +36,7 @@ use Rattle.node.specs.Views.{stored_view, view_node, from_message}
 use Rattle.node.specs.Rows.{loaded_view}
 use Rattle.wait.specs.declared.Wait.{Wait}
 use Rattle.wait.specs.Views.{to_wait}
-use Rattle.swim.specs.Contracts.{row_after}
+use Rattle.swim.specs.Promises.{row_after}
 use Rattle.promises.specs.Panel.{Shows, shows_true}
 use Rattle.promises.specs.Begun.{Begun, begun-gave, begun-wait}
 use Rattle.promises.specs.Made.{Held, Said, Made}

@@ -27,7 +27,7 @@ use Rattle.swim.specs.declared.lookup.Lookup.TheVariants as look
 use Rattle.swim.specs.declared.lookup.Tally.{Tally}
 use Rattle.swim.specs.declared.lookup.Tally.TheVariants as tally
 use Rattle.swim.specs.Lookups.{handed, node_test, address_test, look_up, how_many, member_at, lookup_number, tally_number}
-use Rattle.swim.specs.Contracts.{room, outcome_of, Creates, Adds, Receives, Steps, EndsTimer}
+use Rattle.swim.specs.Promises.{room, outcome_of, Creates, Adds, Receives, Steps, EndsTimer}
 use Rattle.promises.specs.Replies.{same_number, not_zero}
 use Rattle.promises.specs.Firsts.{FirstFails, Passed, all_among, after-tests, by_tests}
 use Rattle.promises.specs.Given.{add-table, message-table, step-table, timer_table}

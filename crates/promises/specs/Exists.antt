@@ -15,7 +15,7 @@ use Rattle.node.specs.declared.Answer.{Answer}
 use Rattle.node.specs.Views.{answer_of, created_of}
 use Rattle.wait.specs.declared.Wait.{Wait}
 use Rattle.wait.specs.Views.{to_wait, from_wait}
-use Rattle.swim.specs.Contracts.{Creates, room, outcome_of, row_after, add_of, message_of, step_of, timer_of}
+use Rattle.swim.specs.Promises.{Creates, room, outcome_of, row_after, add_of, message_of, step_of, timer_of}
 use Rattle.promises.specs.Made.{Held, Said, Accepted, Made, adds, receives, steps, ends_timer, lends}
 use Rattle.promises.specs.Runs.{Runs, rests, makes}
 

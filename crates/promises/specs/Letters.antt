@@ -13,7 +13,7 @@ use Rattle.node.specs.declared.Letter.{Letter}
 use Rattle.node.specs.declared.Answer.{Answer}
 use Rattle.node.specs.Views.{answer_of, from_message}
 use Rattle.swim.specs.declared.Outcome.{Outcome}
-use Rattle.swim.specs.Contracts.{outcome_of, row_after, Ends}
+use Rattle.swim.specs.Promises.{outcome_of, row_after, Ends}
 use Rattle.swim.specs.Laws.{row-after}
 
 -- the counts of the letters in use

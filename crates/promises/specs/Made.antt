@@ -14,7 +14,7 @@ use Rattle.node.specs.declared.Answer.{Answer}
 use Rattle.wait.specs.declared.Wait.{Wait}
 use Rattle.wait.specs.Views.{to_wait}
 use Rattle.swim.specs.declared.Outcome.{Outcome}
-use Rattle.swim.specs.Contracts.{room, Adds, Receives, Steps, EndsTimer}
+use Rattle.swim.specs.Promises.{room, Adds, Receives, Steps, EndsTimer}
 
 -- the node, and what a host lends for a call: its wait record, and its rows for gossip and events
 pub record Held : Type 0 where

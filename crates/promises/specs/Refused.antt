@@ -23,7 +23,7 @@ use Rattle.node.specs.Rows.{unstored-stored}
 use Rattle.wait.specs.declared.Wait.{Wait}
 use Rattle.wait.specs.Views.{to_wait, from_wait, from-to_wait}
 use Rattle.swim.specs.declared.Outcome.{Outcome}
-use Rattle.swim.specs.Contracts.{room, outcome_of, row_after, Ends, Creates, Adds, Receives, Steps, EndsTimer}
+use Rattle.swim.specs.Promises.{room, outcome_of, row_after, Ends, Creates, Adds, Receives, Steps, EndsTimer}
 use Rattle.promises.specs.Replies.{NotDone, refusal_unkept, done_apart}
 use Rattle.promises.specs.Given.{add-table, message-table, step-table, timer_table}
 use Rattle.promises.specs.Made.{letters_of, Held, Said, Made, adds, receives, steps, ends_timer, lends}

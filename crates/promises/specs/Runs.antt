@@ -21,7 +21,7 @@ use Rattle.node.specs.declared.Node.{Node}
 use Rattle.node.specs.Views.{stored_view, unstored, answer_of, from_message, no_letter}
 use Rattle.wait.specs.declared.Wait.{Wait}
 use Rattle.wait.specs.Views.{to_wait, to_from_wait}
-use Rattle.swim.specs.Contracts.{outcome_of, row_after, add_of, message_of, step_of, timer_of}
+use Rattle.swim.specs.Promises.{outcome_of, row_after, add_of, message_of, step_of, timer_of}
 use Rattle.promises.specs.Made.{letters_of, Held, Said, Made, adds, receives, steps, ends_timer, lends}
 use Rattle.promises.specs.Refused.{nothing_written}
 

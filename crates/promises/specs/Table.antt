@@ -31,7 +31,7 @@ use Rattle.node.specs.Views.{stored_view, answer_of}
 use Rattle.wait.specs.declared.Wait.{Wait}
 use Rattle.wait.specs.Views.{to_wait}
 use Rattle.swim.specs.declared.Outcome.{Outcome}
-use Rattle.swim.specs.Contracts.{room, outcome_of, Adds, Receives, Steps, EndsTimer}
+use Rattle.swim.specs.Promises.{room, outcome_of, Adds, Receives, Steps, EndsTimer}
 use Rattle.swim.specs.Lookups.{handed}
 use Rattle.promises.specs.Firsts.{FirstFails, Passed, first-among}
 use Rattle.promises.specs.Stops.{step_stops, StopsAt, AdmissionStops, MessageStops, StepTimersFull, StepHeapFull, StepDrawsShort, Removes, Refutes, IsGone, Over, over_none}

@@ -11,7 +11,7 @@ use Rattle.node.specs.declared.Node.{Node}
 use Rattle.node.specs.declared.Answer.{Answer}
 use Rattle.wait.specs.declared.Wait.{Wait}
 use Rattle.swim.specs.declared.Outcome.{Outcome}
-use Rattle.swim.specs.Contracts.{Ends, Creates, Adds, Receives, Steps, EndsTimer}
+use Rattle.swim.specs.Promises.{Ends, Creates, Adds, Receives, Steps, EndsTimer}
 
 pub create_unique : (settings : Settings) (own : Addr) (number : ℕ) (r r' : Answer) → Creates settings own number r → Creates settings own number r' → r ≡ r'
 create_unique settings own number r r' c c' = c.answer ∙ sym c'.answer

@@ -17,7 +17,7 @@ use Rattle.node.specs.Views.{stored_view, answer_of}
 use Rattle.wait.specs.declared.Wait.{Wait}
 use Rattle.wait.specs.Views.{to_wait, fresh_wait}
 use Rattle.swim.specs.declared.Outcome.{Outcome}
-use Rattle.swim.specs.Contracts.{room, outcome_of, message_of, step_of, Adds, Receives, Steps, EndsTimer}
+use Rattle.swim.specs.Promises.{room, outcome_of, message_of, step_of, Adds, Receives, Steps, EndsTimer}
 use Rattle.supply.specs.Entries.{comers, entry_draws}
 use Rattle.supply.specs.Lending.{step_draws, add-lent, message-lent, message-each, message-most, step-lent, step-most, timer_lent}
 use Rattle.supply.specs.Built.{never_full-here}

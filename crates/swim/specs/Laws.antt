@@ -30,7 +30,7 @@ use Rattle.timer_call.specs.declared.Ended.{Ended}
 use Rattle.wait.specs.Views.{stepped_of, from_wait}
 use Rattle.timer_call.specs.Views.{ended_of}
 use Rattle.swim.specs.declared.Outcome.{Outcome}
-use Rattle.swim.specs.Contracts.{outcome_of, row_after, Ends}
+use Rattle.swim.specs.Promises.{outcome_of, row_after, Ends}
 
 -- the records of a padded array, written over a lent row
 pub row-after : (n : ℕ) (gs : List (W.Gossip Addr)) (lent : List Gossip) → take (length gs) (pad_to n no_gossip (map from_gossip gs)) ++ drop (length gs) lent ≡ row_after gs lent

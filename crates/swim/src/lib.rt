@@ -8,7 +8,7 @@ pub mod saved;
 ghost use Rattle.std.specs.Prelude.{◌≡◌};
 ghost use Rattle.model.specs.Calls as calls;
 ghost use Rattle.node.specs.Views.{stored_view, answer_of, created_of};
-ghost use Rattle.swim.specs.Contracts.{Creates, Adds, Receives, Steps, EndsTimer, Explains};
+ghost use Rattle.swim.specs.Promises.{Creates, Adds, Receives, Steps, EndsTimer, Explains};
 
 use address::Address;
 use model::Settings;

@@ -17,7 +17,7 @@ use Rattle.types.specs.declared.Gossip.{Gossip}
 use Rattle.types.specs.Views.{to_event}
 use Rattle.node.specs.declared.Node.{Node}
 use Rattle.node.specs.Views.{stored_view}
-use Rattle.swim.specs.Contracts.{Explains}
+use Rattle.swim.specs.Promises.{Explains}
 use Rattle.swim.specs.Lookups.{handed}
 use Rattle.promises.specs.Firsts.{FirstFails, fails, passes, first-among}
 use Rattle.promises.specs.Stops.{Push, full_for, item_wants, item_stops}

@@ -19,7 +19,7 @@ use Rattle.types.specs.Views.{to_event}
 use Rattle.disseminate.specs.declared.Found.{Found}
 use Rattle.node.specs.declared.Node as kept
 use Rattle.node.specs.Views.{stored_view}
-use Rattle.swim.specs.Contracts.{Explains}
+use Rattle.swim.specs.Promises.{Explains}
 use Rattle.swim.specs.Lookups.{handed}
 use Rattle.laws_list.specs.Whole.{Whole, strike-addrs, addrs-append}
 use Rattle.laws_list.specs.Held.{has-append, held_new, has-put, has-erase}

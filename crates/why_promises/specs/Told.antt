@@ -32,7 +32,7 @@ use Rattle.node.specs.Views.{stored_view, pack_node, answer_of}
 use Rattle.node.specs.Rows.{loaded_view, sound_pack, unstored_pack}
 use Rattle.message.specs.Hearing.{more-quiet}
 use Rattle.swim.specs.declared.Outcome.{Outcome}
-use Rattle.swim.specs.Contracts.{room, outcome_of, row_after, Ends, Receives, Explains}
+use Rattle.swim.specs.Promises.{room, outcome_of, row_after, Ends, Receives, Explains}
 use Rattle.swim.specs.Lookups.{handed}
 use Rattle.promises.specs.Firsts.{FirstFails, fails, passes, Passed}
 use Rattle.promises.specs.Stops.{item_stops, StopsAt}

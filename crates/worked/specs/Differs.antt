@@ -39,10 +39,10 @@ pub data Wrong : Type 1 where
 
 infix 10 ◌is_not◌seen◌at◌yet_at◌
 abbrev pub Differs : Wrong → Type 0
-Differs (program is-not rule seen run at far yet-at near) = run program far ≡ run rule far → ⊥
+Differs (program is_not rule seen run at far yet_at near) = run program far ≡ run rule far → ⊥
 
 abbrev pub Agrees : Wrong → Type 0
-Agrees (program is-not rule seen run at far yet-at near) = run program near ≡ run rule near
+Agrees (program is_not rule seen run at far yet_at near) = run program near ≡ run rule near
 
 pub data All : List Wrong → Type 1 where
   end : All []
@@ -51,7 +51,7 @@ pub data All : List Wrong → Type 1 where
 infixr 10 ◌and◌
 -- both, to be tested
 abbrev told : Wrong → Bool
-told (program is-not rule seen run at far yet-at near) =
+told (program is_not rule seen run at far yet_at near) =
     not (same_numbers (run program far) (run rule far)) && same_numbers (run program near) (run rule near)
 
 abbrev told_all : List Wrong → Bool
@@ -177,97 +177,97 @@ of_detector rule s = look.of_answer look.of_stepped (rule s [])
 abbrev pub wrongs : List Wrong
 wrongs =
     -- the calls
-    (wrong.addresses_before_the_count is-not message ipv4
+    (wrong.addresses_before_the_count is_not message ipv4
     seen (λ p gs. look.of_outcome (p (stored ipv4 alone) (Ack B none) (says Joined address_end 0 ∷ gs) [] message_room))
-    at replicate 64 nothing yet-at [])
-    ∷ (wrong.soundness_forgotten is-not add_peer ipv4 seen (λ p s. look.of_outcome (p (stored ipv4 s) B 0 (0 ∷ []))) at past_the_end yet-at alone)
-    ∷ (wrong.room_before_soundness is-not end_timer ipv4
-    seen (λ p s. look.of_outcome (p (stored ipv4 s) 20 (record { gossip = 0; events = 0 }))) at past_the_end yet-at alone)
-    ∷ (wrong.tick_renewed is-not detect ipv4
-    seen (λ p now. look.of_step (p (stored ipv4 alone) (enters SendingPing 15) now [] step_room)) at 20 yet-at 25)
-    ∷ (wrong.due_tested_first is-not detect ipv4
-    seen (λ p s. look.of_step (p (stored ipv4 s) (enters SendingPing 15) 20 [] step_room)) at past_the_end yet-at alone)
-    ∷ (wrong.written_from_the_beginning is-not packed
-    seen (λ p ms. look.each look.of_gossip (p ms)) at (letter x ∷ letter y ∷ []) yet-at (letter x ∷ []))
+    at replicate 64 nothing yet_at [])
+    ∷ (wrong.soundness_forgotten is_not add_peer ipv4 seen (λ p s. look.of_outcome (p (stored ipv4 s) B 0 (0 ∷ []))) at past_the_end yet_at alone)
+    ∷ (wrong.room_before_soundness is_not end_timer ipv4
+    seen (λ p s. look.of_outcome (p (stored ipv4 s) 20 (record { gossip = 0; events = 0 }))) at past_the_end yet_at alone)
+    ∷ (wrong.tick_renewed is_not detect ipv4
+    seen (λ p now. look.of_step (p (stored ipv4 alone) (enters SendingPing 15) now [] step_room)) at 20 yet_at 25)
+    ∷ (wrong.due_tested_first is_not detect ipv4
+    seen (λ p s. look.of_step (p (stored ipv4 s) (enters SendingPing 15) 20 [] step_room)) at past_the_end yet_at alone)
+    ∷ (wrong.written_from_the_beginning is_not packed
+    seen (λ p ms. look.each look.of_gossip (p ms)) at (letter x ∷ letter y ∷ []) yet_at (letter x ∷ []))
     -- the refusals of the rules
-    ∷ (wrong.number_comes_round is-not rule_of Suspected seen (λ p n. of_rule (p own n) alone []) at last_number yet-at 6)
-    ∷ (wrong.nine_for_any_heap is-not emit ipv4 kind.Deceased seen (λ p s. of_rule (p (dead 1)) s []) at deaths_full yet-at alone)
-    ∷ (wrong.records_from_one is-not stops_at ipv4 seen (λ p gs. look.of_cause (p gs alone [])) at (x ∷ []) yet-at [])
-    ∷ (wrong.events_counted is-not stops_at ipv4 seen (λ p gs. look.of_cause (p gs alone [])) at (nothing ∷ x ∷ []) yet-at (x ∷ []))
-    ∷ (wrong.last_record_told is-not stops_at ipv4 seen (λ p gs. look.of_cause (p gs alone [])) at (x ∷ nothing ∷ []) yet-at (x ∷ []))
-    ∷ (wrong.sender_for_its_record B is-not stops_at ipv4 seen (λ p gs. look.of_cause (p gs alone [])) at (says Joined B 0 ∷ []) yet-at (says Joined C 0 ∷ []))
-    ∷ (wrong.oldest_ends is-not declare ipv4 seen (λ p s. of_detector (p B 4 20) s) at timers_full yet-at alone)
-    ∷ (wrong.room_before_number is-not rule_of Joined
-    seen (λ p n. of_rule (p (host 64) 0) (full_after_a_death n) []) at last_number yet-at 7)
-    ∷ (wrong.pushed_before_added is-not entered seen (λ p ds. of_rule (p B 0) heap_full ds) at [] yet-at (0 ∷ []))
-    ∷ (wrong.drawn_before_room is-not add eqb
-    seen (λ p ds. look.of_answer look.of_members (p (host 64) 0 list_full.members ds)) at [] yet-at (0 ∷ []))
+    ∷ (wrong.number_comes_round is_not rule_of Suspected seen (λ p n. of_rule (p own n) alone []) at last_number yet_at 6)
+    ∷ (wrong.nine_for_any_heap is_not emit ipv4 kind.Deceased seen (λ p s. of_rule (p (dead 1)) s []) at deaths_full yet_at alone)
+    ∷ (wrong.records_from_one is_not stops_at ipv4 seen (λ p gs. look.of_cause (p gs alone [])) at (x ∷ []) yet_at [])
+    ∷ (wrong.events_counted is_not stops_at ipv4 seen (λ p gs. look.of_cause (p gs alone [])) at (nothing ∷ x ∷ []) yet_at (x ∷ []))
+    ∷ (wrong.last_record_told is_not stops_at ipv4 seen (λ p gs. look.of_cause (p gs alone [])) at (x ∷ nothing ∷ []) yet_at (x ∷ []))
+    ∷ (wrong.sender_for_its_record B is_not stops_at ipv4 seen (λ p gs. look.of_cause (p gs alone [])) at (says Joined B 0 ∷ []) yet_at (says Joined C 0 ∷ []))
+    ∷ (wrong.oldest_ends is_not declare ipv4 seen (λ p s. of_detector (p B 4 20) s) at timers_full yet_at alone)
+    ∷ (wrong.room_before_number is_not rule_of Joined
+    seen (λ p n. of_rule (p (host 64) 0) (full_after_a_death n) []) at last_number yet_at 7)
+    ∷ (wrong.pushed_before_added is_not entered seen (λ p ds. of_rule (p B 0) heap_full ds) at [] yet_at (0 ∷ []))
+    ∷ (wrong.drawn_before_room is_not add eqb
+    seen (λ p ds. look.of_answer look.of_members (p (host 64) 0 list_full.members ds)) at [] yet_at (0 ∷ []))
     -- soundness
-    ∷ (wrong.order_only_counted is-not sound_members ipv4 seen of_list at orders_own_twice yet-at with_b state.Alive 0)
-    ∷ (wrong.emptied_list_refused is-not sound_members ipv4 seen of_list at emptied yet-at alone)
-    ∷ (wrong.only_the_sum is-not sound_members ipv4 seen (λ p l. of_lit p (with_b state.Pending 4) l) at lit 1 0 0 yet-at lit 0 1 0)
-    ∷ (wrong.only_the_sum is-not sound_members ipv4 seen (λ p l. of_lit p (with_b state.Pending 4) l) at lit 0 0 1 yet-at lit 0 1 1)
+    ∷ (wrong.order_only_counted is_not sound_members ipv4 seen of_list at orders_own_twice yet_at with_b state.Alive 0)
+    ∷ (wrong.emptied_list_refused is_not sound_members ipv4 seen of_list at emptied yet_at alone)
+    ∷ (wrong.only_the_sum is_not sound_members ipv4 seen (λ p l. of_lit p (with_b state.Pending 4) l) at lit 1 0 0 yet_at lit 0 1 0)
+    ∷ (wrong.only_the_sum is_not sound_members ipv4 seen (λ p l. of_lit p (with_b state.Pending 4) l) at lit 0 0 1 yet_at lit 0 1 1)
     -- the lamps
-    ∷ (wrong.own_counted is-not lamps_of eqb seen (λ p a. look.of_lamps (p a (with_b state.Suspected 4).members.table)) at own yet-at C)
-    ∷ (wrong.pending_lit_alive is-not lamps_of eqb seen (λ p st. look.of_lamps (p own (with_b st 4).members.table)) at state.Pending yet-at state.Suspected)
-    ∷ (wrong.any_size_in_bounds is-not sound_entry ipv4
-    seen (λ p size. look.of_test (p kind.Alive (record { gossip = x; sends = 0; size = size }))) at 33 yet-at 32)
-    ∷ (wrong.sent22_refused is-not sound_entry ipv4 seen (λ p n. look.of_test (p kind.Alive (sent n x))) at 22 yet-at 21)
-    ∷ (wrong.sender_not_tested is-not valid_gossip ipv4
-    seen (λ p from. look.of_test (p (record { event = Joined from B 0 }))) at address_end yet-at C)
+    ∷ (wrong.own_counted is_not lamps_of eqb seen (λ p a. look.of_lamps (p a (with_b state.Suspected 4).members.table)) at own yet_at C)
+    ∷ (wrong.pending_lit_alive is_not lamps_of eqb seen (λ p st. look.of_lamps (p own (with_b st 4).members.table)) at state.Pending yet_at state.Suspected)
+    ∷ (wrong.any_size_in_bounds is_not sound_entry ipv4
+    seen (λ p size. look.of_test (p kind.Alive (record { gossip = x; sends = 0; size = size }))) at 33 yet_at 32)
+    ∷ (wrong.sent22_refused is_not sound_entry ipv4 seen (λ p n. look.of_test (p kind.Alive (sent n x))) at 22 yet_at 21)
+    ∷ (wrong.sender_not_tested is_not valid_gossip ipv4
+    seen (λ p from. look.of_test (p (record { event = Joined from B 0 }))) at address_end yet_at C)
     -- the heap and choosing
-    ∷ (wrong.stops_a_place_early is-not push unused sends_of
-    seen (λ p es. look.each look.of_entry (p es (sent 1 y))) at (sent 2 x ∷ []) yet-at (sent 0 x ∷ sent 2 x ∷ sent 2 z ∷ []))
-    ∷ (wrong.last_stops_at_an_equal is-not remove_top unused sends_of
-    seen (λ p es. look.each look.of_entry (p es)) at three_told.disseminator.alive yet-at (sent 0 x ∷ sent 1 y ∷ sent 2 z ∷ []))
-    ∷ (wrong.shares_of_the_whole is-not terms_of seen (λ p n. look.of_terms (p n 1169 3)) at 6 yet-at 0)
-    ∷ (wrong.size_not_tested is-not choose ipv4
-    seen (λ p (s : Node ℕ). look.itself (length (p (terms_of 64 1169 1) s.disseminator.alive s.disseminator.deceased).chosen)) at many_told yet-at three_told)
-    ∷ (wrong.last_ones_dropped is-not choose ipv4 seen (λ p n. look.of_choice (p (terms_of n 1169 3) three_told.disseminator.alive [])) at 2 yet-at 6)
-    ∷ (wrong.greatest_death is-not death ipv4 seen (λ p (s : Node ℕ). look.of_option (p B s.disseminator.deceased)) at buried_twice yet-at buried)
+    ∷ (wrong.stops_a_place_early is_not push unused sends_of
+    seen (λ p es. look.each look.of_entry (p es (sent 1 y))) at (sent 2 x ∷ []) yet_at (sent 0 x ∷ sent 2 x ∷ sent 2 z ∷ []))
+    ∷ (wrong.last_stops_at_an_equal is_not remove_top unused sends_of
+    seen (λ p es. look.each look.of_entry (p es)) at three_told.disseminator.alive yet_at (sent 0 x ∷ sent 1 y ∷ sent 2 z ∷ []))
+    ∷ (wrong.shares_of_the_whole is_not terms_of seen (λ p n. look.of_terms (p n 1169 3)) at 6 yet_at 0)
+    ∷ (wrong.size_not_tested is_not choose ipv4
+    seen (λ p (s : Node ℕ). look.itself (length (p (terms_of 64 1169 1) s.disseminator.alive s.disseminator.deceased).chosen)) at many_told yet_at three_told)
+    ∷ (wrong.last_ones_dropped is_not choose ipv4 seen (λ p n. look.of_choice (p (terms_of n 1169 3) three_told.disseminator.alive [])) at 2 yet_at 6)
+    ∷ (wrong.greatest_death is_not death ipv4 seen (λ p (s : Node ℕ). look.of_option (p B s.disseminator.deceased)) at buried_twice yet_at buried)
     -- list and order
-    ∷ (wrong.update_adds is-not update eqb seen (λ p a. look.of_members (p (member a state.Alive 1) (with_b state.Alive 0).members)) at C yet-at B)
-    ∷ (wrong.keeps_the_smaller is-not update eqb seen (λ p n. look.of_members (p (member B state.Suspected n) (with_b state.Pending 5).members)) at 4 yet-at 5)
-    ∷ (wrong.keeps_the_state_too is-not update eqb seen (λ p n. look.of_members (p (member B state.Suspected n) (with_b state.Pending 5).members)) at 4 yet-at 6)
-    ∷ (wrong.raises_an_equal is-not update eqb seen (λ p n. look.of_members (p (member B state.Suspected n) (with_b state.Pending 5).members)) at 5 yet-at 6)
-    ∷ (wrong.each_picked_once is-not pick_from eqb 0
-    seen (λ p wanted. look.of_answer look.of_picked (p own none wanted before_c.members (2 ∷ 0 ∷ []))) at 2 yet-at 1)
-    ∷ (wrong.never_advances is-not pick_from eqb 0
-    seen (λ p wanted. look.of_answer look.of_picked (p own none wanted before_own.members (0 ∷ 1 ∷ []))) at 1 yet-at 0)
-    ∷ (wrong.gives_up_after_two_looks is-not pick_from eqb 0
-    seen (λ p (s : Node ℕ). look.of_answer look.of_picked (p own none 1 s.members (0 ∷ 1 ∷ []))) at before_own yet-at before_c)
+    ∷ (wrong.update_adds is_not update eqb seen (λ p a. look.of_members (p (member a state.Alive 1) (with_b state.Alive 0).members)) at C yet_at B)
+    ∷ (wrong.keeps_the_smaller is_not update eqb seen (λ p n. look.of_members (p (member B state.Suspected n) (with_b state.Pending 5).members)) at 4 yet_at 5)
+    ∷ (wrong.keeps_the_state_too is_not update eqb seen (λ p n. look.of_members (p (member B state.Suspected n) (with_b state.Pending 5).members)) at 4 yet_at 6)
+    ∷ (wrong.raises_an_equal is_not update eqb seen (λ p n. look.of_members (p (member B state.Suspected n) (with_b state.Pending 5).members)) at 5 yet_at 6)
+    ∷ (wrong.each_picked_once is_not pick_from eqb 0
+    seen (λ p wanted. look.of_answer look.of_picked (p own none wanted before_c.members (2 ∷ 0 ∷ []))) at 2 yet_at 1)
+    ∷ (wrong.never_advances is_not pick_from eqb 0
+    seen (λ p wanted. look.of_answer look.of_picked (p own none wanted before_own.members (0 ∷ 1 ∷ []))) at 1 yet_at 0)
+    ∷ (wrong.gives_up_after_two_looks is_not pick_from eqb 0
+    seen (λ p (s : Node ℕ). look.of_answer look.of_picked (p own none 1 s.members (0 ∷ 1 ∷ []))) at before_own yet_at before_c)
     -- handler
-    ∷ (wrong.death_forgotten is-not rule_of Joined seen (λ p s. of_rule (p B 2) s (0 ∷ [])) at buried yet-at alone)
-    ∷ (wrong.raised_to_alive is-not rule_of Joined seen (λ p st. of_rule (p B 5) (with_b st 4) []) at state.Suspected yet-at state.Alive)
-    ∷ (wrong.recovered_at_an_equal is-not rule_of Recovered seen (λ p n. of_rule (p B n) (with_b state.Suspected 4) []) at 4 yet-at 5)
-    ∷ (wrong.older_recovery_taken is-not rule_of Recovered seen (λ p n. of_rule (p B n) (with_b state.Suspected 4) []) at 3 yet-at 5)
-    ∷ (wrong.recovered_keeps_the_state is-not rule_of Recovered seen (λ p st. of_rule (p B 5) (with_b st 4) []) at state.Suspected yet-at state.Alive)
-    ∷ (wrong.own_record_moved is-not rule_of Suspected seen (λ p a. of_rule (p a 0) (with_b state.Alive 0) []) at own yet-at B)
-    ∷ (wrong.own_is_spared is-not rule_of Deceased seen (λ p a. of_rule (p a 0) (with_b state.Alive 0) []) at own yet-at B)
-    ∷ (wrong.stops_at_no_event is-not gossip ipv4
-    seen (λ p gs. of_rule (p gs) alone (0 ∷ [])) at (nothing ∷ x ∷ []) yet-at (x ∷ nothing ∷ []))
-    ∷ (wrong.no_event_taken_for_joined is-not item ipv4 seen (λ p e. of_rule (p e) alone (0 ∷ [])) at Nothing yet-at Joined own B 0)
-    ∷ (wrong.admitted_before_the_gossip is-not handle ipv4
-    seen (λ p gs. look.of_answer look.of_effect (p (Ping B none) gs alone (0 ∷ []))) at (says Joined B 5 ∷ []) yet-at [])
-    ∷ (wrong.asker_added is-not handle ipv4
-    seen (λ p from. look.of_answer look.of_effect (p (PingReq from (host 4)) [] (with_b state.Alive 0) (0 ∷ []))) at C yet-at B)
+    ∷ (wrong.death_forgotten is_not rule_of Joined seen (λ p s. of_rule (p B 2) s (0 ∷ [])) at buried yet_at alone)
+    ∷ (wrong.raised_to_alive is_not rule_of Joined seen (λ p st. of_rule (p B 5) (with_b st 4) []) at state.Suspected yet_at state.Alive)
+    ∷ (wrong.recovered_at_an_equal is_not rule_of Recovered seen (λ p n. of_rule (p B n) (with_b state.Suspected 4) []) at 4 yet_at 5)
+    ∷ (wrong.older_recovery_taken is_not rule_of Recovered seen (λ p n. of_rule (p B n) (with_b state.Suspected 4) []) at 3 yet_at 5)
+    ∷ (wrong.recovered_keeps_the_state is_not rule_of Recovered seen (λ p st. of_rule (p B 5) (with_b st 4) []) at state.Suspected yet_at state.Alive)
+    ∷ (wrong.own_record_moved is_not rule_of Suspected seen (λ p a. of_rule (p a 0) (with_b state.Alive 0) []) at own yet_at B)
+    ∷ (wrong.own_is_spared is_not rule_of Deceased seen (λ p a. of_rule (p a 0) (with_b state.Alive 0) []) at own yet_at B)
+    ∷ (wrong.stops_at_no_event is_not gossip ipv4
+    seen (λ p gs. of_rule (p gs) alone (0 ∷ [])) at (nothing ∷ x ∷ []) yet_at (x ∷ nothing ∷ []))
+    ∷ (wrong.no_event_taken_for_joined is_not item ipv4 seen (λ p e. of_rule (p e) alone (0 ∷ [])) at Nothing yet_at Joined own B 0)
+    ∷ (wrong.admitted_before_the_gossip is_not handle ipv4
+    seen (λ p gs. look.of_answer look.of_effect (p (Ping B none) gs alone (0 ∷ []))) at (says Joined B 5 ∷ []) yet_at [])
+    ∷ (wrong.asker_added is_not handle ipv4
+    seen (λ p from. look.of_answer look.of_effect (p (PingReq from (host 4)) [] (with_b state.Alive 0) (0 ∷ []))) at C yet_at B)
     -- detector
-    ∷ (wrong.spent_gossip_written is-not pinged ipv4 seen (λ p picks. look.of_stepped (p 20 (x ∷ []) (with_b state.Alive 0) picks)) at [] yet-at (B ∷ []))
-    ∷ (wrong.pending_has_answered is-not waited ipv4
-    seen (λ p st. of_detector (p B (SendingPingReq B 4) 20) (with_b st 4)) at state.Pending yet-at state.Suspected)
-    ∷ (wrong.suspected_at_the_held_number is-not send_ping_req ipv4 seen (λ p n. of_detector (p B n 20) (with_b state.Pending 5)) at 4 yet-at 5)
-    ∷ (wrong.stays_in_declaring is-not declare ipv4 seen (λ p s. of_detector (p B 4 20) s) at alone yet-at timers_full)
+    ∷ (wrong.spent_gossip_written is_not pinged ipv4 seen (λ p picks. look.of_stepped (p 20 (x ∷ []) (with_b state.Alive 0) picks)) at [] yet_at (B ∷ []))
+    ∷ (wrong.pending_has_answered is_not waited ipv4
+    seen (λ p st. of_detector (p B (SendingPingReq B 4) 20) (with_b st 4)) at state.Pending yet_at state.Suspected)
+    ∷ (wrong.suspected_at_the_held_number is_not send_ping_req ipv4 seen (λ p n. of_detector (p B n 20) (with_b state.Pending 5)) at 4 yet_at 5)
+    ∷ (wrong.stays_in_declaring is_not declare ipv4 seen (λ p s. of_detector (p B 4 20) s) at alone yet_at timers_full)
     -- an ended timer
-    ∷ (wrong.pending_spared is-not end_at ipv4 seen (λ p st. of_rule (p 0) (timed (with_b st 4)) []) at state.Pending yet-at state.Suspected)
-    ∷ (wrong.gone_is_told is-not end_at ipv4 seen (λ p s. of_rule (p 0) (timed s) []) at alone yet-at with_b state.Suspected 4)
-    ∷ (wrong.full_anyway is-not end_at ipv4 seen (λ p st. of_rule (p 0) (timed (with_b_full st)) []) at state.Alive yet-at state.Suspected)
+    ∷ (wrong.pending_spared is_not end_at ipv4 seen (λ p st. of_rule (p 0) (timed (with_b st 4)) []) at state.Pending yet_at state.Suspected)
+    ∷ (wrong.gone_is_told is_not end_at ipv4 seen (λ p s. of_rule (p 0) (timed s) []) at alone yet_at with_b state.Suspected 4)
+    ∷ (wrong.full_anyway is_not end_at ipv4 seen (λ p st. of_rule (p 0) (timed (with_b_full st)) []) at state.Alive yet_at state.Suspected)
     -- what demand 3 shuts out
-    ∷ (wrong.entered_twice is-not added eqb seen (λ p d. look.of_members (p C 0 d (with_b state.Alive 0).members)) at 0 yet-at 1)
-    ∷ (wrong.writes_back is-not suspect ipv4 seen (λ p n. of_rule (p B n) (with_b state.Pending 5) []) at 4 yet-at 5)
-    ∷ (wrong.pinged_elsewhere is-not pinged ipv4 seen (λ p picks. look.of_stepped (p 20 [] (with_b state.Alive 0) picks)) at (B ∷ []) yet-at [])
-    ∷ (wrong.suspicion_removes is-not rule_of Suspected seen (λ p n. of_rule (p B n) (with_b state.Alive 4) []) at 4 yet-at 3)
-    ∷ (wrong.older_death_taken is-not rule_of Deceased seen (λ p n. of_rule (p B n) (with_b state.Alive 4) []) at 3 yet-at 2)
-    ∷ (wrong.any_death_taken is-not rule_of Deceased seen (λ p n. of_rule (p B n) (with_b state.Alive 4) []) at 2 yet-at 4)
+    ∷ (wrong.entered_twice is_not added eqb seen (λ p d. look.of_members (p C 0 d (with_b state.Alive 0).members)) at 0 yet_at 1)
+    ∷ (wrong.writes_back is_not suspect ipv4 seen (λ p n. of_rule (p B n) (with_b state.Pending 5) []) at 4 yet_at 5)
+    ∷ (wrong.pinged_elsewhere is_not pinged ipv4 seen (λ p picks. look.of_stepped (p 20 [] (with_b state.Alive 0) picks)) at (B ∷ []) yet_at [])
+    ∷ (wrong.suspicion_removes is_not rule_of Suspected seen (λ p n. of_rule (p B n) (with_b state.Alive 4) []) at 4 yet_at 3)
+    ∷ (wrong.older_death_taken is_not rule_of Deceased seen (λ p n. of_rule (p B n) (with_b state.Alive 4) []) at 3 yet_at 2)
+    ∷ (wrong.any_death_taken is_not rule_of Deceased seen (λ p n. of_rule (p B n) (with_b state.Alive 4) []) at 2 yet_at 4)
     ∷ []
 
 -- what the test says of a row holds of it
@@ -276,7 +276,7 @@ all_told [] e = end
 all_told (w ∷ ws) e = let p = and_split (told w) (told_all ws) e in both w p.0 and all_told ws p.1
   where
     both : (w : Wrong) → told w ≡ true → Differs w × Agrees w
-    both (program is-not rule seen run at far yet-at near) e =
+    both (program is_not rule seen run at far yet_at near) e =
         let differs : Bool = not (same_numbers (run program far) (run rule far)) in
         let p = and_split differs (same_numbers (run program near) (run rule near)) e in
         (told_apart (run program far) (run rule far) p.0, told_equal (run program near) (run rule near) p.1)

@@ -48,7 +48,7 @@ use Rattle.node.specs.contracts.Node as N
 use Rattle.node.proofs.Node.TheLaws as N'
 use Rattle.node.specs.contracts.Answer as R
 use Rattle.swim.specs.declared.Outcome.{Outcome}
-use Rattle.swim.specs.Contracts.{EndsTimer}
+use Rattle.swim.specs.Promises.{EndsTimer}
 use Rattle.swim.specs.contracts.Outcome as O
 use Rattle.swim.proofs.Outcome.TheLaws as O'
 use Rattle.swim.specs.contracts.end_timer as thin

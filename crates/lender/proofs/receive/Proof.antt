@@ -52,7 +52,7 @@ use Rattle.types.specs.declared.Action.{Action}
 use Rattle.types.specs.contracts.Action as K
 use Rattle.types.proofs.Action.TheLaws as K'
 use Rattle.swim.specs.declared.Outcome.{Outcome}
-use Rattle.swim.specs.Contracts.{Receives}
+use Rattle.swim.specs.Promises.{Receives}
 use Rattle.swim.specs.contracts.Outcome as O
 use Rattle.swim.proofs.Outcome.TheLaws as O'
 use Rattle.swim.specs.contracts.receive as thin

@@ -53,7 +53,7 @@ use Rattle.wait.specs.declared.Wait.{Wait}
 use Rattle.wait.specs.contracts.Wait as Y
 use Rattle.wait.proofs.Wait.TheLaws as Y'
 use Rattle.swim.specs.declared.Outcome.{Outcome}
-use Rattle.swim.specs.Contracts.{Steps}
+use Rattle.swim.specs.Promises.{Steps}
 use Rattle.swim.specs.contracts.Outcome as O
 use Rattle.swim.proofs.Outcome.TheLaws as O'
 use Rattle.swim.specs.contracts.step as thin

@@ -1,19 +1,9 @@
--- `lent::write_65` meets its contract: `RowsOut.antt`'s law, at `Gossip` and 65. Assumes nothing.
--- the offset of a place of the array fits
-use Prim.Native.Nat.{ℕ, ◌*◌, ◌<◌, ◌^◌}
-use native.Mathlib.Omega.{arith}
-use contract.Running.{tables, tables_of}
-use denote.Struct.Laws as LL
-use denote.Triple.Spec.{triple_of}
-use denote.Triple.Table.{entered}
+-- One more record is a store behind those that were laid.
+use Rattle.std.proofs.Common.{arith}
 use Rattle.types.specs.Views.{no_gossip}
-use Rattle.lent.proofs.RowsOut.{meets}
-use Rattle.types.specs.contracts.Gossip as T
-use Rattle.types.proofs.Gossip.TheLaws as T'
-use Rattle.lent.specs.contracts.write_65.Key.{name as #write-65}
-use Rattle.lent.specs.contracts.write_65 as write-65
-use Rattle.lent.proofs.write_65.Code as code
+use Rattle.lent.proofs.Rows.{laid_more}
 use Rattle.lent.proofs.write_65.Goals as goal
 
-offs : (i : ℕ) → i < 65 → i * 64 < 2 ^ 64
-offs i l = omega (arith, l)
+pub loop-i-preserved : goal.loop-i-preserved
+loop-i-preserved c =
+    (omega arith, laid_more c.loop-i.i c.args.a c.args.out.now c.loop-i.out no_gossip c.loop-i.invariant.1 (omega arith) (omega arith))

@@ -10,6 +10,7 @@ use Rattle.member.specs.declared.Member.{Member}
 use Rattle.member.specs.Views.{nobody}
 use borrow.Author.Rules.{rules}
 use Rattle.member.proofs.close_up.Goals as goal
+use Rattle.member.proofs.close_up.Goals.{then-i-place, else-i-place}
 
 pub loop-i-init : goal.loop-i-init
 loop-i-init c =
@@ -19,7 +20,10 @@ loop-i-init c =
 pub loop-i-preserved : goal.loop-i-preserved
 loop-i-preserved c =
     let l = c.loop-i in
-    ⊎_elim (λ w. close_before l.invariant _ (omega arith) w.0.taken w.2) (λ w. close_after l.invariant _ (omega arith) w.0.left w.2) c.if-i-place.branch
+    elim c.if-i-place.branch [
+      | then-i-place w ↦ close_before l.invariant _ (omega arith) w.if-i-place.true w.out-is
+      | else-i-place w ↦ close_after l.invariant _ (omega arith) w.if-i-place.false w.out-is
+    ]
 
 pub returns : goal.returns
 returns c = close_ends c.loop-i.invariant (omega arith)

@@ -60,7 +60,7 @@ use Rattle.lent.proofs.Rows.{laid, field_rows}
 use Rattle.lent.proofs.write_1.Symbol as write_def
 use Rattle.lent.proofs.write_1.Symbol.{name as #write}
 use Rattle.lent.proofs.write_1.Met as write_thm
-use Rattle.swim.specs.Contracts.{timer_of}
+use Rattle.swim.specs.Promises.{timer_of}
 use Rattle.swim.specs.Laws.{ended-answer, ended-told}
 use Rattle.lent.proofs.Writing.{name_of, tys_of, field_ty, field_part, row_ty, on_ty, rval, Write, row_ref, row_val, to_write, ask_write, wrote}
 use Rattle.swim.proofs.Out.{out, out_is}

@@ -76,7 +76,7 @@ use Rattle.lent.proofs.write_65.Met as write-65-thm
 use Rattle.lent.proofs.write_64.Symbol as write-64-def
 use Rattle.lent.proofs.write_64.Symbol.{name as #write-64}
 use Rattle.lent.proofs.write_64.Met as write-64-thm
-use Rattle.swim.specs.Contracts.{room, message_of}
+use Rattle.swim.specs.Promises.{room, message_of}
 use Rattle.swim.specs.Laws.{received_ends, lent-message}
 use Rattle.lent.proofs.Writing.{name_of, tys_of, field_ty, field_part, row_ty, on_ty, rval, Write, row_ref, row_val, to_write, ask_write, wrote}
 use Rattle.swim.proofs.Out.{out, out_is}

@@ -68,7 +68,7 @@ use Rattle.lent.proofs.write_1.Met as write-1-thm
 use Rattle.lent.proofs.write_256.Symbol as write-256-def
 use Rattle.lent.proofs.write_256.Symbol.{name as #write-256}
 use Rattle.lent.proofs.write_256.Met as write-256-thm
-use Rattle.swim.specs.Contracts.{step_of}
+use Rattle.swim.specs.Promises.{step_of}
 use Rattle.swim.specs.Laws.{stepped-ends, stepped-waits}
 use Rattle.lent.proofs.Writing.{name_of, tys_of, field_ty, field_part, row_ty, on_ty, rval, Write, row_ref, row_val, to_write, ask_write, wrote}
 use Rattle.swim.proofs.Out.{out, out_is}

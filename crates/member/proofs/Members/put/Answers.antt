@@ -32,16 +32,10 @@ at-number m place k n lamps = record { table = set m.table place (record { addr 
 used : (c : lts.Else1 tie.the-claims reads.Pre reads.Post) → c.args.held.place < c.args.self.len
 used c = omega (arith, c.if-place-n.false, c.requires.3)
 
--- where the place was tested, before the lamp of what was held
-abbrev tested : goal.After-light → lts.Else1 tie.the-claims reads.Pre reads.Post
-tested c = c.before.before.before.before.before
-
 was-held : (c : goal.After-light)
     → c.light.result
-    ≡ light_of here.same (tested c).before.args.own (tested c).before.args.member.addr (standing_of (tested c).before.args.self (tested c).before.args.member.addr).state
-was-held c =
-    let s = (tested c).before in
-    c.light.ensures ∙ ap (λ (x : Standing). light_of here.same s.args.own s.args.member.addr x.state) s.pre.2
+    ≡ light_of here.same c.args.own c.args.member.addr (standing_of c.args.self c.args.member.addr).state
+was-held c = c.light.ensures ∙ ap (λ (x : Standing). light_of here.same c.args.own c.args.member.addr x.state) c.requires.2
 
 pub returns-then-place-n : goal.returns-then-place-n
 returns-then-place-n c =

@@ -17,24 +17,17 @@ use Rattle.member.proofs.Members.remove_member.Tie as tie
 use Rattle.member.proofs.Members.remove_member.Reads as reads
 use Rattle.member.proofs.Members.remove_member.Goals as goal
 
-at : (c : lts.After-find tie.the-claims reads.Pre reads.Post) → c.find-held.result.place ≡ (standing_of c.args.self c.args.a).place
+at : (c : lts.After-find tie.the-claims reads.Pre reads.Post tie.handed_clauses) → c.find-held.result.place ≡ (standing_of c.args.self c.args.a).place
 at c = ap (λ (x : Standing). x.place) c.find-held.ensures.value
 
-used : (c : lts.Else1 tie.the-claims reads.Pre reads.Post) → c.find-held.result.place < c.args.self.len
+used : (c : lts.Else1 tie.the-claims reads.Pre reads.Post tie.handed_clauses) → c.find-held.result.place < c.args.self.len
 used c = omega (arith, c.if-held-n.false, c.find-held.ensures.within)
-
--- where its place was tested, before its lamp
-abbrev tested : goal.After-light → lts.Else1 tie.the-claims reads.Pre reads.Post
-tested c = c.before.before.before.before.before.before.before.before
 
 -- the lamp of what was held
 was-held : (c : goal.After-light)
     → c.light.result
-    ≡ light_of here.same (tested c).before.before.before.args.own (tested c).before.before.before.args.a
-    (standing_of (tested c).before.before.before.args.self (tested c).before.before.before.args.a).state
-was-held c =
-    let f = (tested c).before.before in
-    c.light.ensures ∙ ap (λ (x : Standing). light_of here.same f.before.args.own f.before.args.a x.state) f.find.ensures.0
+    ≡ light_of here.same c.args.own c.args.a (standing_of c.args.self c.args.a).state
+was-held c = c.light.ensures ∙ ap (λ (x : Standing). light_of here.same c.args.own c.args.a x.state) c.find-held.ensures.value
 
 pub returns-then-held-n : goal.returns-then-held-n
 returns-then-held-n c =
@@ -54,9 +47,8 @@ remove-requires c =
 
 pub minus-requires : goal.minus-requires
 minus-requires c =
-    let f = (tested c).before.before in
-    let s = f.before in
-    held-counted s.args.self s.pre.0.packed s.args.a f.find.result.place (at f) (used (tested c)) s.args.own c.light.result s.pre.1 (was-held c)
+    held-counted c.args.self c.requires.0.packed c.args.a c.find-held.result.place (ap (λ (x : Standing). x.place) c.find-held.ensures.value)
+    (omega (arith, c.if-held-n.false, c.find-held.ensures.within)) c.args.own c.light.result c.requires.1 (was-held c)
 
 pub returns : goal.returns
 returns c =

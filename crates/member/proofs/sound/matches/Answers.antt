@@ -16,8 +16,12 @@ use Rattle.laws_list.specs.Places.{place_of}
 use Rattle.laws_list.specs.Checks.{Marked, mark-start, mark_absent, mark_again, mark-next, mark_end}
 use Rattle.member.specs.Drawers.{Firsts, first_found}
 use borrow.Author.Rules.{rules}
+use Rattle.member.proofs.sound.matches.Lts as lts
+use Rattle.member.proofs.sound.matches.Tie as tie
+use Rattle.member.proofs.sound.matches.Reads as reads
 use Rattle.member.proofs.sound.matches.Invariants.{Found}
 use Rattle.member.proofs.sound.matches.Goals as goal
+use Rattle.member.proofs.sound.matches.Goals.{then-not-stands_at, else-not-stands_at}
 
 -- at first sight: the first of its drawer is the address
 at-sight : (order : List Addr) (n q : ℕ) (firsts : List ℕ) (a : Addr) (d : ℕ) (u : Bool) → Firsts order n firsts 0 → n ≤ 64 → length order ≡ 64 → q ≡ get_or firsts d 0
@@ -30,33 +34,33 @@ at-sight order n q firsts a d u f few long e k w t =
     (sym (first_found order n firsts a q f (omega (arith, few, long)) (e ∙ ap (λ (p : ℕ). get_or firsts p 0) k) h held), omega (arith, h))
 
 -- what is known where a place was sought
-module _ (j : tie.Joined1 invariant-loop decreases-loop) where
-  full-order : length j.before.before.before.before.before.before.before.before.args.t2 ≡ 64
+module _ (j : lts.Joined1 tie.the-claims reads.Pre reads.Post goal.the-invariant-loop-i goal.the-decreases-loop-i tie.handed_clauses) where
+  full-order : length j.args.order ≡ 64
   full-order = search rules
 
-  long_order : length (take j.before.before.before.before.before.before.before.before.args.n j.before.before.before.before.before.before.before.before.args.t2) ≡ j.before.before.before.before.before.before.before.before.args.n
-  long_order = let a = j.before.before.before.before.before.before.before.before.args in length-take-le a.n a.t2 (omega (arith, full-order, j.before.before.before.before.before.before.before.before.pre))
+  long_order : length (take j.args.n j.args.order) ≡ j.args.n
+  long_order = let a = j.args in length-take-le a.n a.order (omega (arith, full-order, j.requires))
 
-  long-row : length (take j.before.before.before.before.before.before.before.before.args.n j.before.before.before.before.before.before.before.before.args.t1) ≡ j.before.before.before.before.before.before.before.before.args.n
+  long-row : length (take j.args.n j.args.row) ≡ j.args.n
   long-row =
-      let a = j.before.before.before.before.before.before.before.before.args in
-      let h : length a.t1 ≡ 64 = search rules in
-      length-take-le a.n a.t1 (omega (arith, j.before.before.before.before.before.before.before.before.pre))
+      let a = j.args in
+      let h : length a.row ≡ 64 = search rules in
+      length-take-le a.n a.row (omega (arith, j.requires))
 
-  place_is : (place_of here.same (get_or j.before.before.before.before.before.before.before.before.args.t1 j.before.before.before.before.before.before.loop.i here.blank) (take j.before.before.before.before.before.before.before.before.args.n j.before.before.before.before.before.before.before.before.args.t2) ≡ j.if1.place) × (j.if1.place ≤ j.before.before.before.before.before.before.before.before.args.n)
+  place_is : (place_of here.same (get_or j.args.row j.loop-i.i here.blank) (take j.args.n j.args.order) ≡ j.if-not-stands_at.place) × (j.if-not-stands_at.place ≤ j.args.n)
   place_is =
-      let a = j.before.before.before.before.before.before.before.before.args in
-      ⊎_elim
-      (λ w. (sym (w.2 ∙ w.1.ensures.0), omega (arith, w.2, w.1.ensures.1)))
-      (λ w.
-      let s = at-sight a.t2 a.n _ _ _ _ _ j.before.before.before.before.before.before.before.first-places.ensures j.before.before.before.before.before.before.before.before.pre full-order refl j.before.before.before.drawer.ensures.0 j.before.stands_at.ensures (not-false _ w.0.left) in
-      (s.0 ∙ sym w.1, omega (arith, w.1, s.1)))
-      j.if1.came
+      let a = j.args in
+      elim j.if-not-stands_at.branch [
+        | then-not-stands_at w ↦ (sym (w.place-is ∙ w.find_place-place.ensures.value), omega (arith, w.place-is, w.find_place-place.ensures.within))
+        | else-not-stands_at w ↦
+            let s = at-sight a.order a.n _ _ _ _ _ j.first_places-firsts.ensures j.requires full-order refl j.drawer.ensures.0 j.stands_at.ensures w.if-not-stands_at.false in
+            (s.0 ∙ sym w.place-is, omega (arith, w.place-is, s.1))
+      ]
 
-  sought : place_of here.same (get_or (take j.before.before.before.before.before.before.before.before.args.n j.before.before.before.before.before.before.before.before.args.t1) j.before.before.before.before.before.before.loop.i here.blank) (take j.before.before.before.before.before.before.before.before.args.n j.before.before.before.before.before.before.before.before.args.t2) ≡ j.if1.place
+  sought : place_of here.same (get_or (take j.args.n j.args.row) j.loop-i.i here.blank) (take j.args.n j.args.order) ≡ j.if-not-stands_at.place
   sought =
-      let a = j.before.before.before.before.before.before.before.before.args in
-      ap (λ (x : Addr). place_of here.same x (take a.n a.t2)) (get_or-take a.n a.t1 j.before.before.before.before.before.before.loop.i here.blank (omega arith)) ∙ place_is.0
+      let a = j.args in
+      ap (λ (x : Addr). place_of here.same x (take a.n a.order)) (get_or-take a.n a.row j.loop-i.i here.blank (omega arith)) ∙ place_is.0
 
 pub loop-i-init : goal.loop-i-init
 loop-i-init c =
@@ -71,28 +75,25 @@ loop-i-init c =
 
 pub returns-then-place-n : goal.returns-then-place-n
 returns-then-place-n c =
-    let f = c.before in
     let a = c.args in
-    mark_absent here.same here_lawful.test here.blank (take a.n a.order) (take a.n a.row) c.loop-i.i (omega (arith, long-row f))
-    (sought f ∙ c.if-place-n.true ∙ sym (long_order f))
+    mark_absent here.same here_lawful.test here.blank (take a.n a.order) (take a.n a.row) c.loop-i.i (omega (arith, long-row c.before))
+    (sought c.before ∙ c.if-place-n.true ∙ sym (long_order c.before))
 
 pub bounds-marks-place : goal.bounds-marks-place
-bounds-marks-place c = let f = c.before in omega (arith, (place_is f).1, c.if-place-n.false, c.requires, c.loop-i.invariant.long)
+bounds-marks-place c = omega (arith, (place_is c.before).1, c.if-place-n.false, c.requires, c.loop-i.invariant.long)
 
 pub returns-then-marks-place : goal.returns-then-marks-place
 returns-then-marks-place c =
-    let f = c.before.before in
     let a = c.args in
     let l = c.loop-i in
-    mark_again here.same here_lawful.test here.blank (take a.n a.order) (take a.n a.row) l.marks l.i l.invariant.marked (omega (arith, long-row f))
-    (omega (arith, sought f, long_order f, (place_is f).1, c.if-place-n.false)) (ap (λ (p : ℕ). get_or l.marks p false) (sought f) ∙ c.if-marks-place.true)
+    mark_again here.same here_lawful.test here.blank (take a.n a.order) (take a.n a.row) l.marks l.i l.invariant.marked (omega (arith, long-row c.before.before))
+    (omega (arith, sought c.before.before, long_order c.before.before, (place_is c.before.before).1, c.if-place-n.false)) (ap (λ (p : ℕ). get_or l.marks p false) (sought c.before.before) ∙ c.if-marks-place.true)
 
 pub bounds-marks-place-in-loop-i : goal.bounds-marks-place-in-loop-i
-bounds-marks-place-in-loop-i c = let f = c.before.before in omega (arith, (place_is f).1, c.if-place-n.false, c.requires, c.loop-i.invariant.long)
+bounds-marks-place-in-loop-i c = omega (arith, (place_is c.before.before).1, c.if-place-n.false, c.requires, c.loop-i.invariant.long)
 
 pub loop-i-preserved : goal.loop-i-preserved
 loop-i-preserved c =
-    let f = c.before.before in
     let a = c.args in
     let l = c.loop-i in
     record {
@@ -100,10 +101,10 @@ loop-i-preserved c =
       long = length-set l.marks c.if-not-stands_at.place true ∙ l.invariant.long;
       marked = subst
           (λ (p : ℕ). Marked here.same here_lawful.test (take a.n a.order) (take a.n a.row) (set l.marks p true) (l.i + 1))
-          (sought f)
-          (mark-next here.same here_lawful.test here.blank (take a.n a.order) (take a.n a.row) l.marks l.i l.invariant.marked (omega (arith, long-row f))
-          (omega (arith, long_order f, l.invariant.long, c.requires))
-          (omega (arith, sought f, long_order f, (place_is f).1, c.if-place-n.false)) (ap (λ (p : ℕ). get_or l.marks p false) (sought f) ∙ c.if-marks-place.false));
+          (sought c.before.before)
+          (mark-next here.same here_lawful.test here.blank (take a.n a.order) (take a.n a.row) l.marks l.i l.invariant.marked (omega (arith, long-row c.before.before))
+          (omega (arith, long_order c.before.before, l.invariant.long, c.requires))
+          (omega (arith, sought c.before.before, long_order c.before.before, (place_is c.before.before).1, c.if-place-n.false)) (ap (λ (p : ℕ). get_or l.marks p false) (sought c.before.before) ∙ c.if-marks-place.false));
     }
 
 pub returns : goal.returns
