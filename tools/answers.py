@@ -195,7 +195,9 @@ class Turner:
         for helper, at in self.helpers.items():
             steps = list(self.f.chain(place))
             if at in steps:
-                to = var + ".before" * steps.index(at)
+                # An arm and what it says of the value are one step.
+                arms = [self.f.places[p][4] for p in steps[: steps.index(at)]]
+                to = var + ".before" * sum(1 for a in arms if not a or a[1] < 2)
                 new = self.answers.get(helper, helper)
                 text = re.sub(rf"(?<![^\s(){{}}\[\];,]){re.escape(helper)} (?:{heads})(?:\.before)*(?: κs)?(?![.\w])", f"{new} {to}", text)
         # Names for places that are no longer used.
@@ -214,8 +216,6 @@ class Turner:
             p = flat(m[1])
             if p in self.f.places:
                 new = self.f.places[p][3]
-                if new in self.f.asked:
-                    return "goal." + new
                 self.inner = True
                 loops = "".join(f" goal.the-invariant-{n[1]} goal.the-decreases-{n[1]}" for n, _ in self.f.loops)
                 return f"lts.{self.f.raw[p]} tie.the-claims reads.Pre reads.Post{loops}{self.f.handed}"
@@ -313,7 +313,7 @@ def labels_of(crate, folder):
     name = inner[-1].lstrip("+")
     src = f"crates/{crate}/src"
     files = [os.path.join(src, inner[0] + ".rt")] if len(inner) > 1 and os.path.exists(os.path.join(src, inner[0] + ".rt")) else []
-    files += [os.path.join(src, f) for f in ("lib.rt", "main.rt") if os.path.exists(os.path.join(src, f))]
+    files += [os.path.join(src, f) for f in sorted(os.listdir(src)) if f.endswith(".rt") and os.path.join(src, f) not in files]
     for path in files:
         with open(path, encoding="utf-8") as f:
             text = f.read()
