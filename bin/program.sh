@@ -16,28 +16,21 @@ crates_below() {
 
 # Program $1 stands at $2, proved and built first where that has not been done. Sets `runner`.
 prepare() {
-  local program=$2 crates kit tools emulator
+  local program=$2 crates
   command -v awk >/dev/null || wrong "awk is not on the PATH"
-  command -v rt >/dev/null || [ -n "${RATTLE_HOME:-}" ] || wrong "the Rattle kit's command rt is not on the PATH"
   if [ ! -e "$program" ]; then
-    command -v rt >/dev/null || wrong "the program $1 is not built, and rt is not on the PATH"
+    command -v rt >/dev/null || wrong "the program $1 is not built, and the Rattle kit's command rt is not on the PATH"
     crates=$(crates_below "$1")
     echo "$name: the first run proves and builds the program: $crates crates, some minutes" >&2
-    (cd "$house" && rt check "$1") 2>&1 | awk -v name="$name" -v all="$crates" '
-      / proved \(/ { printf "%s: crate %d of %d: %s\n", name, ++n, all, $2; fflush(); next }
+    # `rt run` also starts what it has built, here on no input.
+    (cd "$house/crates/$1" && rt run </dev/null) 2>&1 | awk -v name="$name" -v all="$crates" -v want="$1" '
+      /^crate [a-z0-9_]+: / { crate = $2; sub(":", "", crate) }
+      /^logic=proved/ { printf "%s: crate %d of %d: %s\n", name, ++n, all, crate; fflush(); if (crate == want) proved = 1; next }
       { last = $0 }
-      END { if (n < all) print last }' >&2
-    [ -e "$program" ] || wrong "the program $1 could not be built: 'rt check $1' says why"
+      END { if (!proved) print last }' >&2
+    [ -e "$program" ] || wrong "the program $1 could not be built: 'rt run' in crates/$1 says why"
   fi
-  # Programs are for x86-64; the kit has a loader for them and, for other machines, an emulator.
-  kit=${RATTLE_HOME:-$(dirname "$(dirname "$(realpath "$(command -v rt)")")")}
-  tools=$kit/on/$(uname -m)/toolchain
-  [ -e "$tools/lib/ld-linux-x86-64.so.2" ] || wrong "the Rattle kit has no loader at $tools/lib"
-  emulator=$tools/bin/qemu-x86_64
-  # The plain processor that programs are compiled for: the emulator is ten times slower at the copying that a C library does on newer ones.
-  export QEMU_CPU="${QEMU_CPU:-qemu64}"
-  runner=("$tools/lib/ld-linux-x86-64.so.2" --library-path "$tools/lib" "$program")
-  [ ! -x "$emulator" ] || runner=("$emulator" "${runner[@]}")
+  runner=("$program")
 }
 
 # Standard input and output are there, and the input is no directory.
