@@ -11,4 +11,4 @@ pub returns-else-same : goal.returns-else-same
 returns-else-same c = death_not _ _ _ _ _ c.in-Deceased.is _ c.same.ensures c.if-same.false
 
 pub returns-in_default : goal.returns-in_default
-returns-in_default c = death_other c.args.a c.args.g.event c.in_default.in_default-own.keys2
+returns-in_default c = death_other c.args.a c.args.g.event c.in_default.not-Deceased
