@@ -8,4 +8,4 @@ use borrow.Author.Rules.{rules}
 use Rattle.image.proofs.is_marked.Goals as goal
 
 pub returns : goal.returns
-returns c = c.opens_with.ensures ∙ ap (λ (u : Bool). marked (version u) c.args.bytes.now) c.is_Is_wide.ensures
+returns c = c.opens_with.ensures ∙ ap (λ (u : Bool). marked (version u) c.args.bytes.now) c.is_wide.ensures

@@ -11,14 +11,14 @@ returns-then-not-is_marked c = opening-mark c.args.bytes.now (sym c.is_marked.en
 
 pub returns-then-bytes-head_size : goal.returns-then-bytes-head_size
 returns-then-bytes-head_size c =
-    opening-head c.args.bytes.now _ c.is_Is_wide.ensures _ (sym c.is_marked.ensures ∙ c.if-not-is_marked.false) c.head_size.ensures.0 (search rules)
+    opening-head c.args.bytes.now _ c.is_wide-wide.ensures _ (sym c.is_marked.ensures ∙ c.if-not-is_marked.false) c.head_size.ensures.0 (search rules)
 
 pub returns-then-bytes-place_at : goal.returns-then-bytes-place_at
 returns-then-bytes-place_at c =
-    opening_size c.args.bytes.now _ c.is_Is_wide.ensures _ _ _ (sym c.is_marked.ensures ∙ c.if-not-is_marked.false) c.head_size.ensures.0 (search rules)
+    opening_size c.args.bytes.now _ c.is_wide-wide.ensures _ _ _ (sym c.is_marked.ensures ∙ c.if-not-is_marked.false) c.head_size.ensures.0 (search rules)
     c.count_in-count.ensures.0 c.place_at.ensures.0 (search rules)
 
 pub returns : goal.returns
 returns c =
-    opening_good c.args.bytes.now _ c.is_Is_wide.ensures _ _ _ (sym c.is_marked.ensures ∙ c.if-not-is_marked.false) c.head_size.ensures.0 (search rules)
+    opening_good c.args.bytes.now _ c.is_wide-wide.ensures _ _ _ (sym c.is_marked.ensures ∙ c.if-not-is_marked.false) c.head_size.ensures.0 (search rules)
     c.count_in-count.ensures.0 c.place_at.ensures.0 (search rules)
