@@ -1,3 +1,0 @@
-pub mod Values
-pub mod Lending
-pub mod Record
