@@ -127,6 +127,7 @@ class Turner:
         self.f, self.crate, self.path = function, crate, path
         self.said = []
         self.helpers = {}
+        self.answers = {}
         self.negates = False
         self.inner = False
 
@@ -195,7 +196,8 @@ class Turner:
             steps = list(self.f.chain(place))
             if at in steps:
                 to = var + ".before" * steps.index(at)
-                text = re.sub(rf"(?<![^\s(){{}}\[\];,]){re.escape(helper)} (?:{heads})(?:\.before)*(?![.\w])", f"{helper} {to}", text)
+                new = self.answers.get(helper, helper)
+                text = re.sub(rf"(?<![^\s(){{}}\[\];,]){re.escape(helper)} (?:{heads})(?:\.before)*(?: κs)?(?![.\w])", f"{new} {to}", text)
         # Names for places that are no longer used.
         for a in aliases - {var}:
             bare = re.sub(rf"let {re.escape(a)} = {WORD}(?:\.before)* in *\n? *", "", text)
@@ -352,7 +354,7 @@ def answer(turner, index, block, old):
 
 
 def inline(turner, index, arg):
-    m = re.match(rf"^\(λ ({WORD})(?: κs)?\. (.*)\)$", arg, re.S)
+    m = re.match(rf"^\(λ ({WORD})(?: κs)?\.\s+(.*)\)$", arg, re.S)
     new = turner.f.goals[index][1]
     body = labelled(turner, index, turner.body(" " + m[2], turner.f.at[index], m[1]))
     return f"pub {new} : goal.{new}\n{new} {m[1]} ={body}"
@@ -420,6 +422,12 @@ def turn(path, function, crate):
                 t.helpers[name_of(b)] = p
                 if name_of(b) == "module" or b.lstrip("-").startswith("module") or re.search(r"(?m)^module _", b):
                     t.helpers.update({n: p for n in re.findall(rf"(?m)^  ({WORD}) :", b)})
+    for b in decls[:-1]:
+        m = re.search(r"tie\.Need-([^\s()]+)", b)
+        i = function.goal(m[1]) if m else None
+        if i is not None:
+            t.helpers[name_of(b)] = function.at[i]
+            t.answers[name_of(b)] = function.goals[i][1]
     loops = {}
     for b in decls[:-1]:
         code = [l for l in b.split("\n") if not l.startswith("--")]

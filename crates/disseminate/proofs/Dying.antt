@@ -9,14 +9,11 @@ use native.Mathlib.Omega.{arith}
 use native.Mathlib.Numerals.{add-one}
 use lib.ListN.{length, take, drop, get_or, drop_of_length-le}
 use lib.Seq.{drop-cons, get_or-take, length-take-le}
-use types.Run.{OneOf, miss}
-use denote.Enum.Declared.{tag_of}
 use Rattle.model.specs.Rows.{pick}
 use Rattle.address.specs.Here.{Addr, here}
 use Rattle.model.specs.Choose.{death_in, or_else, death}
 use Rattle.types.specs.declared.Event.{Event}
 use Rattle.types.specs.declared.Event.TheVariants.{Nothing, Joined, Recovered, Suspected, Deceased}
-use Rattle.types.specs.contracts.Event.{the_type}
 use Rattle.types.specs.Views.{to_event}
 use Rattle.heap.specs.declared.Entry.{Entry}
 use Rattle.heap.specs.Views.{to_entry, no_entry}
@@ -34,12 +31,12 @@ module _ (a f s : Addr) (n : ℕ) (v : Event) (e : v ≡ Deceased f s n) (u : Bo
   pub death_not : u ≡ false → Missing ≡ said a v
   death_not h = sym (ap (said a) e ∙ ap (λ (b : Bool). from_found (pick b (some n) none)) (sym q ∙ h))
 
-pub death_other : (a : Addr) (v : Event) → OneOf (0 ∷ 1 ∷ 2 ∷ 3 ∷ []) (tag_of the_type v) → Missing ≡ said a v
+pub death_other : (a : Addr) (v : Event) → ((f s : Addr) (n : ℕ) → v ≡ Deceased f s n → ⊥) → Missing ≡ said a v
 death_other a Nothing h = refl
 death_other a (Joined f s n) h = refl
 death_other a (Recovered f s n) h = refl
 death_other a (Suspected f s n) h = refl
-death_other a (Deceased f s n) h = absurd (miss (0 ∷ 1 ∷ 2 ∷ 3 ∷ []) 4 tt h)
+death_other a (Deceased f s n) h = absurd (h f s n refl)
 
 or_found : (x y : Option ℕ) (n : ℕ) → from_found x ≡ At n → from_found (or_else here x y) ≡ At n
 unfolding or_else
