@@ -1,6 +1,8 @@
 // Answers a script on standard input, call by call. The argument `quiet` leaves the states out.
 #![tactic(auto)]
 
-fn main(rt: HostRuntime) {
-    replayer::run(&rt, &mut rt.stdin(), &mut rt.stdout(), &mut rt.stderr());
+use std::io;
+
+fn main(rt: HostRuntime) -> io::Result<()> {
+    replayer::run(&rt, &mut rt.stdin(), rt.stdout(), &mut rt.stderr())
 }

@@ -5,7 +5,9 @@ use crate::calls::obey;
 use keeper::Host;
 use report::{flush, put_bytes, put_number};
 use std::env::Env;
+use std::io;
 use std::io::{Read, Write};
+use streams::Outlet;
 use telling::put_old;
 use text::read_line;
 use words::find;
@@ -138,12 +140,12 @@ fn take_chunk<W: Write>(
     host
 }
 
-// Answers the lines that end in a chunk; what is answered goes out before the next read.
+// Answers the lines that end in a chunk; what is answered goes out before the next read. Where it is lost, nothing more is read.
 fn answer_chunk<W: Write, E: Write>(
     host: Host,
     chunk: &[u8],
     line: &mut [u8],
-    to: &mut W,
+    to: &mut Outlet<W>,
     err: &mut E,
     out: &mut [u8],
     draws: &mut [u64],
@@ -152,6 +154,7 @@ fn answer_chunk<W: Write, E: Write>(
     let mut after = take_chunk(host, chunk, line, to, out, draws, bytes);
     let at = flush(to, out, after.unwritten);
     after.unwritten = at;
+    after.has_ended = to.is_lost();
     put_progress(after.is_watched, after.line, err, out);
     after
 }
@@ -218,7 +221,7 @@ fn read_some<I: Read, W: Write, E: Write>(
     from: &mut I,
     chunk: &mut [u8],
     line: &mut [u8],
-    to: &mut W,
+    to: &mut Outlet<W>,
     err: &mut E,
     out: &mut [u8],
     draws: &mut [u64],
@@ -237,7 +240,7 @@ fn answer_all<I: Read, W: Write, E: Write>(
     from: &mut I,
     chunk: &mut [u8],
     line: &mut [u8],
-    to: &mut W,
+    to: &mut Outlet<W>,
     err: &mut E,
     out: &mut [u8],
     draws: &mut [u64],
@@ -277,13 +280,16 @@ fn replay<I: Read, W: Write, E: Write>(
     from: &mut I,
     chunk: &mut [u8],
     line: &mut [u8],
-    to: &mut W,
+    to: &mut Outlet<W>,
     err: &mut E,
     out: &mut [u8],
     draws: &mut [u64],
     bytes: &mut [u8],
 ) {
     let after = answer_all(host, from, chunk, line, to, err, out, draws, bytes);
+    if to.is_lost() {
+        return;
+    }
     end_input(after, line, to, err, out, draws, bytes);
 }
 
@@ -307,34 +313,56 @@ fn is_given<R: Env>(rt: &R, name: &[u8]) -> bool {
     is_arg(rt, 3, name)
 }
 
-fn start<I: Read, W: Write, E: Write>(host: Host, from: &mut I, to: &mut W, err: &mut E) {
+// The first error of the writer, if there was one.
+fn start<I: Read, W: Write + Drop, E: Write>(
+    host: Host,
+    from: &mut I,
+    to: W,
+    err: &mut E,
+) -> io::Result<()> {
     let mut chunk = [0u8; 65536];
     let mut line = [0u8; 65536];
     let mut out = [0u8; 65536];
     let mut draws = [0u64; 1024];
     let mut bytes = [0u8; 65536];
+    let mut outlet = Outlet::new(to);
     replay(
-        host, from, &mut chunk, &mut line, to, err, &mut out, &mut draws, &mut bytes,
+        host,
+        from,
+        &mut chunk,
+        &mut line,
+        &mut outlet,
+        err,
+        &mut out,
+        &mut draws,
+        &mut bytes,
     );
+    outlet.finish()
 }
 
 // Answers an input to its end. The argument `quiet` leaves the states out, `numbered` puts the line's number before each answer.
-pub fn run<R: Env, I: Read, W: Write, E: Write>(rt: &R, from: &mut I, to: &mut W, err: &mut E) {
+pub fn run<R: Env, I: Read, W: Write + Drop, E: Write>(
+    rt: &R,
+    from: &mut I,
+    to: W,
+    err: &mut E,
+) -> io::Result<()> {
     let host = Host::new(
         is_given(rt, b"quiet"),
         is_given(rt, b"numbered"),
         false,
         is_given(rt, b"progress"),
     );
-    start(host, from, to, err);
+    start(host, from, to, err)
 }
 
 // Tells of an input, to its end, what each call did to the list.
-pub fn audit<R: Env, I: Read, W: Write, E: Write>(rt: &R, from: &mut I, to: &mut W, err: &mut E) {
-    start(
-        Host::new(true, false, true, is_given(rt, b"progress")),
-        from,
-        to,
-        err,
-    );
+pub fn audit<R: Env, I: Read, W: Write + Drop, E: Write>(
+    rt: &R,
+    from: &mut I,
+    to: W,
+    err: &mut E,
+) -> io::Result<()> {
+    let host = Host::new(true, false, true, is_given(rt, b"progress"));
+    start(host, from, to, err)
 }

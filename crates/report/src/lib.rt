@@ -1,5 +1,5 @@
-// Writes answers as text. Bytes gather in a lent buffer from place 0 on, and go to a writer whenever it is full. A write that fails is not told: what was lost is the writer's
-// to say.
+// Writes answers as text. Bytes gather in a lent buffer from place 0 on, and go to a writer whenever it is full. What a write answers is not looked at: a
+// writer that may fail keeps its error, as `streams::Outlet` does.
 #![tactic(auto)]
 
 use address::Address;

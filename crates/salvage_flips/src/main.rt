@@ -4,9 +4,10 @@
 
 mod tell;
 
-use intake::read_full;
 use report::flush;
+use std::io;
 use std::io::Write;
+use streams::{Outlet, read_full};
 use tell::{Tally, put_case, put_tally, tallied};
 
 fn mask(bit: usize) -> u8 {
@@ -113,7 +114,7 @@ fn sum_up<W: Write>(
     put_tally(to, out, from, bits as u64, tally)
 }
 
-fn main(rt: HostRuntime) {
+fn main(rt: HostRuntime) -> io::Result<()> {
     let mut small = [0u8; 66];
     let mut mixed = [0u8; 110];
     let mut full = [0u8; 1103];
@@ -121,7 +122,7 @@ fn main(rt: HostRuntime) {
     let mut out = [0u8; 65536];
     let mut result = [0u8; 4096];
     let mut from = rt.stdin();
-    let mut to = rt.stdout();
+    let mut to = Outlet::new(rt.stdout());
     read_full(&mut from, &mut small);
     read_full(&mut from, &mut mixed);
     read_full(&mut from, &mut full);
@@ -131,4 +132,5 @@ fn main(rt: HostRuntime) {
     let summed = sum_up(&mut full, 8824, &mut to, &mut out, both, &mut result);
     let end = sum_up(&mut wide, 14544, &mut to, &mut out, summed, &mut result);
     flush(&mut to, &mut out, end);
+    to.finish()
 }

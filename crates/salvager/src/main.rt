@@ -3,10 +3,10 @@
 
 mod tell;
 
-use intake::read_full;
 use salvage::Ends;
 use std::io::Write;
 use std::process::ExitCode;
+use streams::read_full;
 use tell::{any_dropped, put_places, put_refusal};
 
 // How a salvage ended.

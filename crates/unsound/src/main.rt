@@ -9,10 +9,11 @@ mod tell;
 ghost use Rattle.std.specs.Prelude.{◌≡◌, ◌+◌, ◌≤◌, length};
 
 use change::changed;
-use intake::read_full;
 use made::sound;
 use node::Node;
+use std::io;
 use std::io::Write;
+use streams::{Outlet, read_full};
 use tell::tell;
 use words::find;
 
@@ -52,8 +53,10 @@ fn tell_all<W: Write>(to: &mut W, lines: &[u8]) {
     }
 }
 
-fn main(rt: HostRuntime) {
+fn main(rt: HostRuntime) -> io::Result<()> {
     let mut lines = [0u8; 65536];
+    let mut to = Outlet::new(rt.stdout());
     let got = read_full(&mut rt.stdin(), &mut lines);
-    tell_all(&mut rt.stdout(), &lines[..got]);
+    tell_all(&mut to, &lines[..got]);
+    to.finish()
 }

@@ -1,6 +1,6 @@
 -- So many bytes stand at the row's front.
 use Rattle.std.proofs.Common.{◌≤◌, length}
-use Rattle.intake.proofs.read_full.Given as goal
+use Rattle.streams.proofs.row.read_full.Given as goal
 
 abbrev pub invariant-loop : goal.invariant-loop
 invariant-loop g l = l.done ≤ length l.row
