@@ -41,6 +41,7 @@ BY_HAND = {
         "= pick (not (address_in_rule address ((entry f).get bytes))) word.Address (pick (ltb (length bytes) (entry f).width) word.Cut (verdict address kept ((entry f).get bytes)))",
     ),
     "saving_promises/must-fail/own_is_the_first_kept": ("≡ own_at f bytes", "≡ (record_at f bytes 0).addr"),
+    "supply/must-fail/a_step_that_counts_no_send": ("(loaded o.node).disseminator.alive + from-alive ≡ owed", "(loaded o.node).disseminator.alive ≡ owed"),
     "supply_promises/must-fail/a_refused_step_counted": (" && has_run s.reply)", ")"),
     "swim/tried/messages_counted_as_events": ("reported = length o.events }", "reported = length o.messages }"),
 }
