@@ -19,6 +19,7 @@ use Rattle.rules.specs.Views.{to_verdict}
 use Rattle.rules.proofs.row_after.Lts as lts
 use Rattle.rules.proofs.row_after.Tie as tie
 use Rattle.rules.proofs.row_after.Reads as reads
+use Prim.Native.Nat.{ℕ}
 use Rattle.rules.proofs.row_after.Goals as goal
 
 row_stays : (t : List (W.Member Addr)) (r : List (W.Departed Addr)) (v : Verdict) → ((a : Addr) (n : ℕ) → v ≡ Bury a n → ⊥) → r ≡ M.row_after here (to_verdict v) t r
