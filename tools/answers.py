@@ -154,10 +154,10 @@ class Turner:
             if not parts:
                 return m[0]
             name, rest = parts[0], parts[1:]
-            name = "requires" if name == "pre" else name
+            name = "requires" if name == "pre" else name.replace("_Is_", "_")
             if name in ("args", "requires", "well_formed", "ranges"):
                 if rest and name in ("args", "ranges"):
-                    rest[0] = self.f.args.get(rest[0], rest[0])
+                    rest[0] = self.f.args.get(rest[0], rest[0].replace("-", "_"))
                 return ".".join([var, name] + rest)
             found = self.f.field(place, name, rest)
             if found is None:

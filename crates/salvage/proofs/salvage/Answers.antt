@@ -1,0 +1,62 @@
+-- `salvage::salvage` meets its contract: 14, 16, then 12, else the image of what is left.
+-- Assumes nothing.
+use mathlib.Core.Path.{◌≡◌, ap, sym, ◌∙◌}
+use mathlib.Core.Bool.{true}
+use Prim.Native.Nat.{ℕ, min}
+use native.Mathlib.Omega.{arith}
+use borrow.Author.Rules.{rules}
+use borrow.Author.Tests.{not-true, not-false}
+use Rattle.address.specs.Here.{here}
+use Rattle.image.specs.Image.{marked}
+use Rattle.image.specs.Forms.{form_in}
+use Rattle.image.specs.Versions.{versions, version}
+use Rattle.salvage.specs.Salvage.{headed}
+use Rattle.salvage.proofs.Judging.{headed-long}
+use Rattle.salvage.proofs.Ending.{salvage_unmarked, salvage_headless, salvage-short, salvage-whole}
+use Rattle.salvage.proofs.salvage.Lts as lts
+use Rattle.salvage.proofs.salvage.Tie as tie
+use Rattle.salvage.proofs.salvage.Reads as reads
+use Rattle.salvage.proofs.salvage.Goals as goal
+
+marked-there : (c : lts.Else1 tie.the-claims reads.Pre reads.Post) → marked (form_in versions c.args.bytes.now) c.args.bytes.now ≡ true
+marked-there c = sym c.is_marked.ensures ∙ c.if-not-is_marked.false
+
+headed-there : (c : lts.Else2 tie.the-claims reads.Pre reads.Post)
+    → headed here (version c.is_Is_wide.result) c.args.bytes.now ≡ true
+headed-there c = sym c.is_headed.ensures ∙ c.if-not-is_headed.false
+
+pub returns-then-not-is_marked : goal.returns-then-not-is_marked
+returns-then-not-is_marked c =
+    let a = c.args in
+    salvage_unmarked a.bytes.now a.out.now _ c.is_Is_wide.ensures _ (sym c.is_marked.ensures ∙ c.if-not-is_marked.true) c.refused.ensures
+
+pub returns-then-not-is_headed : goal.returns-then-not-is_headed
+returns-then-not-is_headed c =
+    let a = c.args in
+    salvage_headless a.bytes.now a.out.now _ c.is_Is_wide.ensures (marked-there c.before.before.before) _
+    (sym c.is_headed.ensures ∙ c.if-not-is_headed.true) c.refused-then-not-is_headed.ensures
+
+pub count_in-count-requires : goal.count_in-count-requires
+count_in-count-requires c = headed-long _ c.args.bytes.now (headed-there c)
+
+pub get_address-own-requires : goal.get_address-own-requires
+get_address-own-requires c =
+    omega (arith, headed-long _ c.args.bytes.now (headed-there c.before.before))
+
+pub write-written-requires : goal.write-written-requires
+write-written-requires c =
+    omega (arith, c.sift-sifted.ensures.few, c.at_most_64-places.ensures)
+
+pub returns-in-TooLong : goal.returns-in-TooLong
+returns-in-TooLong c =
+    let a = c.args in
+    salvage-short a.bytes.now a.out.now _ c.is_Is_wide.ensures (marked-there c.before.before.before.before.before.before.before.before.before.before.before.before.before.before.before.before) (headed-there c.before.before.before.before.before.before.before.before.before.before.before.before.before.before) _ _ c.sift-sifted.result _
+    (c.at_most_64-places.ensures ∙ ap (λ (k : ℕ). min k 64) c.count_in-count.ensures.0) c.get_address-own.ensures c.sift-sifted.ensures _ c.place_at.ensures.0
+    c.position_at-position.ensures _ _ c.write-written.ensures.0 c.write-written.ensures.1 _ _ c.count_in-count.ensures.0 c.in-TooLong.is c.refused-in-TooLong.ensures
+
+pub returns-in-Whole : goal.returns-in-Whole
+returns-in-Whole c =
+    let a = c.args in
+    salvage-whole a.bytes.now a.out.now _ c.is_Is_wide.ensures (marked-there c.before.before.before.before.before.before.before.before.before.before.before.before.before.before.before) (headed-there c.before.before.before.before.before.before.before.before.before.before.before.before.before) _ _ c.sift-sifted.result _
+    (c.at_most_64-places.ensures ∙ ap (λ (k : ℕ). min k 64) c.count_in-count.ensures.0) c.get_address-own.ensures c.sift-sifted.ensures _ c.place_at.ensures.0
+    c.position_at-position.ensures _ _ c.write-written.ensures.0 c.write-written.ensures.1 _ _ c.count_in-count.ensures.0 c.in-Whole.is
