@@ -415,7 +415,7 @@ def turn(path, function, crate):
     spec = decls[-1]
     invariants, answers, helpers, names = [], [], [], {}
     for b in decls[:-1]:
-        m = re.search(r"\(?(\w+) : tie\.(?!Need|invariant|decreases)", b)
+        m = re.search(r"\(?([^\s()]+) : tie\.(?!Need|invariant|decreases)", b)
         if m and not re.search(r": tie\.(Need|invariant|decreases)", b.split("\n")[0]):
             p = t.place(b)
             if p:
@@ -447,8 +447,11 @@ def turn(path, function, crate):
             answers.append((i, got or "-- LEFT\n" + b))
         else:
             p = t.place(b)
-            m = re.search(rf"\(?({WORD}) : tie\.", b)
-            helpers.append(t.types(t.body(b, p, m[1]) if p and m else b))
+            m = re.search(rf"\(({WORD}) : tie\.", b)
+            n = name_of(b)
+            clause = re.search(rf"(?m)^{re.escape(n)} ({WORD})(?: {WORD})* =", b) if re.search(rf"{re.escape(n)} : tie\.", b) else None
+            var = m[1] if m else clause[1] if clause else None
+            helpers.append(t.types(t.body(b, p, var) if p and var else b))
     m = re.search(r"tie\.close\s*\(?tie\.spec(.*)\)\s*$", spec, re.S)
     if not m:
         t.say("its last declaration is not read: " + " ".join(spec.split())[:200])

@@ -17,7 +17,7 @@ use Rattle.timer_call.proofs.end_timer.Reads as reads
 use Rattle.timer_call.proofs.end_timer.Goals as goal
 
 abbrev call : lts.Start tie.the-claims reads.Pre reads.Post → Call
-call s = record { node = s.args.node; tick = s.args.tick; lent = record { gossip = s.args.gossip-room; events = s.args.event-room } }
+call s = record { node = s.args.node; tick = s.args.tick; lent = record { gossip = s.args.gossip_room; events = s.args.event_room } }
 
 sound-there : (c : lts.Else1 tie.the-claims reads.Pre reads.Post) → sound here (stored_view c.args.node) ≡ true
 sound-there c = sym c.sound.ensures ∙ c.if-not-sound.false

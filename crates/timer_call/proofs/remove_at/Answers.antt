@@ -14,24 +14,20 @@ use Rattle.timer_call.proofs.remove_at.Goals as goal
 
 abbrev death : lts.After-grow tie.the-claims reads.Pre reads.Post tie.handed_clauses → Death
 death p =
-    let d = p.before in
-    let w = d.before in
-    let t = w.before.before in
-    let s = t.before.before.before.before in
     record {
-      node = s.args.node;
-      ready = s.requires.0;
-      place = s.args.place;
-      within = s.requires.1;
-      there = s.requires.2;
-      timers = t.end.result;
-      timers_is = t.end.ensures;
-      members = w.remove-member.result;
-      members_is = w.remove-member.ensures;
-      gossip = record { event = d.new-node-deceased.result };
-      named = d.new-node-deceased.ensures;
-      pushed = p.grow.result;
-      pushed_is = p.grow.ensures;
+      node = p.args.node;
+      ready = p.requires.0;
+      place = p.args.place;
+      within = p.requires.1;
+      there = p.requires.2;
+      timers = p.end-after.result;
+      timers_is = p.end-after.ensures;
+      members = p.remove_member-left.result;
+      members_is = p.remove_member-left.ensures;
+      gossip = record { event = p.new_node_deceased.result };
+      named = p.new_node_deceased.ensures;
+      pushed = p.grow-pushed.result;
+      pushed_is = p.grow-pushed.ensures;
     }
 
 pub returns-then-pushed : goal.returns-then-pushed

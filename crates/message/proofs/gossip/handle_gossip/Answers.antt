@@ -56,7 +56,7 @@ abbrev all : lts.After-verdict_at tie.the-claims reads.Pre reads.Post goal.the-i
 all v = let a = (start v).args in whole a.node a.lent a.draws.now
 
 abbrev reached : lts.After-verdict_at tie.the-claims reads.Pre reads.Post goal.the-invariant-loop-i goal.the-decreases-loop-i tie.handed_clauses → Node
-reached v = let at = v.before.before.before.loop in current (start v).args.node at.members at.departed at.alive at.deceased
+reached v = let at = v.loop-i in current (start v).args.node at.members at.departed at.alive at.deceased
 
 room : (v : lts.After-verdict_at tie.the-claims reads.Pre reads.Post goal.the-invariant-loop-i goal.the-decreases-loop-i tie.handed_clauses) → v.loop-i.report.count < 65
 room v = omega (arith, is-due v.before.before, v.loop-i.invariant.1, (start v).requires.1.few)
@@ -65,10 +65,10 @@ abbrev where-stopped : lts.Start tie.the-claims reads.Pre reads.Post goal.the-in
 where-stopped s = let a = s.args in stops a.node a.lent a.draws.now
 
 abbrev rule : lts.After-verdict_at tie.the-claims reads.Pre reads.Post goal.the-invariant-loop-i goal.the-decreases-loop-i tie.handed_clauses → M.Node Addr → List ℕ → Answer (M.Out Addr)
-rule v = let a = (start v).args in turn (to_optional a.lent.sender) (records a.lent) v.before.before.before.loop.i
+rule v = let a = (start v).args in turn (to_optional a.lent.sender) (records a.lent) v.loop-i.i
 
 abbrev after : lts.After-verdict_at tie.the-claims reads.Pre reads.Post goal.the-invariant-loop-i goal.the-decreases-loop-i tie.handed_clauses → M.Node Addr → List ℕ → Answer (M.Out Addr)
-after v = let a = (start v).args in ahead (to_optional a.lent.sender) (records a.lent) (v.before.before.before.loop.i + 1)
+after v = let a = (start v).args in ahead (to_optional a.lent.sender) (records a.lent) (v.loop-i.i + 1)
 
 due : (v : lts.After-verdict_at tie.the-claims reads.Pre reads.Post goal.the-invariant-loop-i goal.the-decreases-loop-i tie.handed_clauses)
     → Sofar (all v) (λ m ds. M.and_more (rule v m ds) (after v)) (start v).args.draws.now v.loop-i.used (reached v) v.loop-i.report
@@ -93,7 +93,7 @@ is-news w =
 
 -- how many held events the news outdates
 abbrev old : lts.After-verdict_at tie.the-claims reads.Pre reads.Post goal.the-invariant-loop-i goal.the-decreases-loop-i tie.handed_clauses → ℕ
-old v = collects_for (start v).args.node.settings.collect (news v) (heap_view v.before.before.before.loop.alive)
+old v = collects_for (start v).args.node.settings.collect (news v) (heap_view v.loop-i.alive)
 
 is-old : (o : lts.After-old_news tie.the-claims reads.Pre reads.Post goal.the-invariant-loop-i goal.the-decreases-loop-i tie.handed_clauses) → o.old_news-old.result ≡ old o.before.before.before.before.before.before.before.before
 is-old o =
@@ -132,7 +132,7 @@ abbrev told : lts.Else3 tie.the-claims reads.Pre reads.Post goal.the-invariant-l
 told f = f.before.before.before.before.before.before.before.before.before.before.before
 
 abbrev said : lts.Else3 tie.the-claims reads.Pre reads.Post goal.the-invariant-loop-i goal.the-decreases-loop-i tie.handed_clauses → handler.News Addr
-said f = to_news f.before.before.before.before.news-of.result
+said f = to_news f.news_of-news.result
 
 has_room : (f : lts.Else3 tie.the-claims reads.Pre reads.Post goal.the-invariant-loop-i goal.the-decreases-loop-i tie.handed_clauses) (k : Kind) → let at = (told f).before.before.before.loop in RoomFor k (said f) (of_kind k (at.alive.len - f.old_news-old.result) at.deceased.len)
 has_room f k =
@@ -161,24 +161,20 @@ clear-there j =
 module _ (p : lts.Joined5 tie.the-claims reads.Pre reads.Post goal.the-invariant-loop-i goal.the-decreases-loop-i tie.handed_clauses) where
   abbrev open-to : lts.Else3 tie.the-claims reads.Pre reads.Post goal.the-invariant-loop-i goal.the-decreases-loop-i tie.handed_clauses decreases-loop
   open-to = p.before.before.before
-
   abbrev judged : lts.After-verdict_at tie.the-claims reads.Pre reads.Post goal.the-invariant-loop-i goal.the-decreases-loop-i tie.handed_clauses decreases-loop
   judged = told open-to
-
   is-alive : p.if-goes_to.alive ≡ told_to kind.Alive (said open-to) (cleared_for open-to.before.before.before.old-news.result (said open-to) judged.before.before.before.loop.alive)
   is-alive =
       ⊎_elim
       (λ w. w.3 ∙ w.1.ensures ∙ ap (told_to kind.Alive (said open-to)) (is-cleared p.before.before))
       (λ w. w.4 ∙ is-cleared p.before.before ∙ sym (told_elsewhere kind.Alive (said open-to) _ (sym p.Goes-to.ensures ∙ w.0.left)))
       p.if-goes_to.branch
-
   is-deceased : p.if-goes_to.deceased ≡ told_to kind.Deceased (said open-to) judged.before.before.before.loop.deceased
   is-deceased =
       ⊎_elim
       (λ w. w.4 ∙ sym (told_elsewhere kind.Deceased (said open-to) _ (living-only (said open-to) (sym p.Goes-to.ensures ∙ w.0.taken))))
       (λ w. w.5 ∙ w.2.ensures)
       p.if-goes_to.branch
-
   is_row : let at = judged.before.before.before.loop in p.if-goes_to.departed ≡ pack_departed (handler.row_after here (verdict judged) (view_members at.members).table (departed_view at.departed))
   is_row =
       let at = judged.before.before.before.loop in

@@ -59,7 +59,7 @@ pub -- the verdict, and what is ahead of it
 abbrev verdict : lts.After-verdict_at tie.the-claims reads.Pre reads.Post goal.the-invariant-loop-i goal.the-decreases-loop-i tie.handed_clauses → handler.Verdict Addr
 verdict v =
     let a = (start v).args in
-    let at = v.before.before.before.loop in
+    let at = v.loop-i in
     verdict_at a.node.own (view_members at.members).table (deaths_of a.node.settings.remember at.departed at.deceased) (records a.lent) (to_optional a.lent.sender) at.i
 
 abbrev pub invariant-loop-i : goal.invariant-loop-i
