@@ -18,30 +18,23 @@ use Rattle.salvage.proofs.salvage.Tie as tie
 use Rattle.salvage.proofs.salvage.Reads as reads
 use Rattle.salvage.proofs.salvage.Goals as goal
 
-marked-there : (c : lts.Else1 tie.the-claims reads.Pre reads.Post) → marked (form_in versions c.args.bytes.now) c.args.bytes.now ≡ true
-marked-there c = sym c.is_marked.ensures ∙ c.if-not-is_marked.false
-
-headed-there : (c : lts.Else2 tie.the-claims reads.Pre reads.Post)
-    → headed here (version c.is_Is_wide.result) c.args.bytes.now ≡ true
-headed-there c = sym c.is_headed.ensures ∙ c.if-not-is_headed.false
-
 pub returns-then-not-is_marked : goal.returns-then-not-is_marked
 returns-then-not-is_marked c =
     let a = c.args in
-    salvage_unmarked a.bytes.now a.out.now _ c.is_Is_wide.ensures _ (sym c.is_marked.ensures ∙ c.if-not-is_marked.true) c.refused.ensures
+    salvage_unmarked a.bytes.now a.out.now _ c.is_wide-wide.ensures _ (sym c.is_marked.ensures ∙ c.if-not-is_marked.true) c.refused.ensures
 
 pub returns-then-not-is_headed : goal.returns-then-not-is_headed
 returns-then-not-is_headed c =
     let a = c.args in
-    salvage_headless a.bytes.now a.out.now _ c.is_Is_wide.ensures (marked-there c.before.before.before) _
+    salvage_headless a.bytes.now a.out.now _ c.is_wide-wide.ensures (sym c.is_marked.ensures ∙ c.if-not-is_marked.false) _
     (sym c.is_headed.ensures ∙ c.if-not-is_headed.true) c.refused-then-not-is_headed.ensures
 
 pub count_in-count-requires : goal.count_in-count-requires
-count_in-count-requires c = headed-long _ c.args.bytes.now (headed-there c)
+count_in-count-requires c = headed-long _ c.args.bytes.now (sym c.is_headed.ensures ∙ c.if-not-is_headed.false)
 
 pub get_address-own-requires : goal.get_address-own-requires
 get_address-own-requires c =
-    omega (arith, headed-long _ c.args.bytes.now (headed-there c.before.before))
+    omega (arith, headed-long _ c.args.bytes.now (sym c.is_headed.ensures ∙ c.if-not-is_headed.false))
 
 pub write-written-requires : goal.write-written-requires
 write-written-requires c =
@@ -50,13 +43,13 @@ write-written-requires c =
 pub returns-in-TooLong : goal.returns-in-TooLong
 returns-in-TooLong c =
     let a = c.args in
-    salvage-short a.bytes.now a.out.now _ c.is_Is_wide.ensures (marked-there c.before.before.before.before.before.before.before.before.before.before.before.before.before.before.before.before) (headed-there c.before.before.before.before.before.before.before.before.before.before.before.before.before.before) _ _ c.sift-sifted.result _
+    salvage-short a.bytes.now a.out.now _ c.is_wide-wide.ensures (sym c.is_marked.ensures ∙ c.if-not-is_marked.false) (sym c.is_headed.ensures ∙ c.if-not-is_headed.false) _ _ c.sift-sifted.result _
     (c.at_most_64-places.ensures ∙ ap (λ (k : ℕ). min k 64) c.count_in-count.ensures.0) c.get_address-own.ensures c.sift-sifted.ensures _ c.place_at.ensures.0
     c.position_at-position.ensures _ _ c.write-written.ensures.0 c.write-written.ensures.1 _ _ c.count_in-count.ensures.0 c.in-TooLong.is c.refused-in-TooLong.ensures
 
 pub returns-in-Whole : goal.returns-in-Whole
 returns-in-Whole c =
     let a = c.args in
-    salvage-whole a.bytes.now a.out.now _ c.is_Is_wide.ensures (marked-there c.before.before.before.before.before.before.before.before.before.before.before.before.before.before.before) (headed-there c.before.before.before.before.before.before.before.before.before.before.before.before.before) _ _ c.sift-sifted.result _
+    salvage-whole a.bytes.now a.out.now _ c.is_wide-wide.ensures (sym c.is_marked.ensures ∙ c.if-not-is_marked.false) (sym c.is_headed.ensures ∙ c.if-not-is_headed.false) _ _ c.sift-sifted.result _
     (c.at_most_64-places.ensures ∙ ap (λ (k : ℕ). min k 64) c.count_in-count.ensures.0) c.get_address-own.ensures c.sift-sifted.ensures _ c.place_at.ensures.0
     c.position_at-position.ensures _ _ c.write-written.ensures.0 c.write-written.ensures.1 _ _ c.count_in-count.ensures.0 c.in-Whole.is

@@ -14,10 +14,6 @@ use Rattle.wait.proofs.mail.append.Tie as tie
 use Rattle.wait.proofs.mail.append.Reads as reads
 use Rattle.wait.proofs.mail.append.Goals as goal
 
--- a row has its length
-long : (c : lts.Start tie.the-claims reads.Pre reads.Post goal.the-invariant-loop-i goal.the-decreases-loop-i) → length c.args.rows ≡ 64
-long c = search rules
-
 pub loop-i-init : goal.loop-i-init
 loop-i-init c = (append-start c.args.gossip c.args.at c.args.rows c.requires.0, omega arith)
 
@@ -27,9 +23,10 @@ loop-i-smaller c = omega (arith, c.loop-i-test.true)
 pub loop-i-preserved : goal.loop-i-preserved
 loop-i-preserved c =
     let l = c.loop-i in
-    let a = c.args in (
+    let a = c.args in
+    let long : length c.args.rows ≡ 64 = search rules in (
       ap (λ (x : _). set x (a.at + l.i) (get_or a.rows l.i no_gossip)) l.invariant.0
-          ∙ append-next a.gossip a.at a.rows l.i c.requires.0 (omega (arith, long c.before.before.before, c.loop-i-test.true, c.requires.1)) (omega (arith, c.loop-i-test.true, c.requires.2)),
+          ∙ append-next a.gossip a.at a.rows l.i c.requires.0 (omega (arith, long, c.loop-i-test.true, c.requires.1)) (omega (arith, c.loop-i-test.true, c.requires.2)),
       omega (arith, c.loop-i-test.true),
     )
 

@@ -1,0 +1,14 @@
+-- `cwords::nodes::departed_rows` meets its contract: a place a turn, each read back.
+-- Assumes nothing.
+use Prim.Native.Nat.{◌-◌}
+use borrow.Author.Rules.{rules}
+use Rattle.cwords.specs.Reading.{departed_of}
+use Rattle.cwords.specs.Writing.{departed_words}
+use Rattle.cwords.proofs.Filling.{Backed, backed_none, backed_next, filled_back}
+use Rattle.cwords.proofs.nodes.departed_rows.Given as goal
+
+abbrev pub invariant-loop-i : goal.invariant-loop-i
+invariant-loop-i l = Backed departed_words departed_of l.values 128 l.initial.out l.i l.out
+
+abbrev pub decreases-loop-i : goal.decreases-loop-i
+decreases-loop-i l = 128 - l.i

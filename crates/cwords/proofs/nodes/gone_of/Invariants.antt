@@ -1,0 +1,13 @@
+-- `cwords::nodes::gone_of` meets its contract: a place a turn.
+-- Assumes nothing.
+use Prim.Native.Nat.{◌-◌}
+use borrow.Author.Rules.{rules}
+use Rattle.cwords.specs.Reading.{departed_of}
+use Rattle.cwords.proofs.Filling.{Filled, filled_none, filled_next, filled_whole}
+use Rattle.cwords.proofs.nodes.gone_of.Given as goal
+
+abbrev pub invariant-loop-i : goal.invariant-loop-i
+invariant-loop-i l = Filled departed_of l.rows 128 l.initial.out l.i l.out
+
+abbrev pub decreases-loop-i : goal.decreases-loop-i
+decreases-loop-i l = 128 - l.i

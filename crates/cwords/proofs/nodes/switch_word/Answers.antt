@@ -1,0 +1,9 @@
+-- `cwords::nodes::switch_word` meets its contract.
+-- Assumes nothing.
+use Rattle.cwords.proofs.nodes.switch_word.Goals as goal
+
+pub returns-then-on : goal.returns-then-on
+returns-then-on c = rw c.if-on.true
+
+pub returns-else-on : goal.returns-else-on
+returns-else-on c = rw c.if-on.false

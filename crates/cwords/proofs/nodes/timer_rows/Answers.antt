@@ -1,0 +1,17 @@
+-- `cwords::nodes::timer_rows` meets its contract: a place a turn, each read back.
+-- Assumes nothing.
+use Prim.Native.Nat.{◌-◌}
+use borrow.Author.Rules.{rules}
+use Rattle.cwords.specs.Reading.{timer_of}
+use Rattle.cwords.specs.Writing.{timer_words}
+use Rattle.cwords.proofs.Filling.{Backed, backed_none, backed_next, filled_back}
+use Rattle.cwords.proofs.nodes.timer_rows.Goals as goal
+
+pub loop-i-init : goal.loop-i-init
+loop-i-init c = backed_none
+
+pub loop-i-preserved : goal.loop-i-preserved
+loop-i-preserved c = backed_next c.loop-i.invariant _ (search rules) (search rules) (search rules) c.timer_words.ensures
+
+pub returns : goal.returns
+returns c = filled_back c.loop-i.invariant (search rules) (search rules) (search rules)

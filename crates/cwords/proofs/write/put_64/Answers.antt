@@ -1,0 +1,16 @@
+-- `cwords::write::put_64` meets its contract: a place a turn.
+-- Assumes nothing.
+use Prim.Native.Nat.{◌-◌}
+use borrow.Author.Rules.{rules}
+use Rattle.cwords.specs.Writing.{gossip_words}
+use Rattle.cwords.proofs.Filling.{Filled, filled_none, filled_next, filled_all}
+use Rattle.cwords.proofs.write.put_64.Goals as goal
+
+pub loop-i-init : goal.loop-i-init
+loop-i-init c = filled_none
+
+pub loop-i-preserved : goal.loop-i-preserved
+loop-i-preserved c = filled_next c.loop-i.invariant _ (search rules) (search rules) (search rules) c.gossip_words.ensures.0
+
+pub returns : goal.returns
+returns c = filled_all c.loop-i.invariant (search rules)
