@@ -6,7 +6,7 @@ import subprocess
 import sys
 
 NO = re.compile(r"(\./\S+\.antt):(\d+):(\d+): error: .*record `\S+` has no field `before`")
-OFF = re.compile(r"(\./\S+\.antt):(\d+):(\d+): error: .*?(?:expected type `[\w.]*?((?:Start|Else|Then|After|In|At|Joined)[^\s`]*) tie|where one has `lts\.(\S+)` \(expected\))")
+OFF = re.compile(r"(\./\S+\.antt):(\d+):(\d+): error: .*?(?:expected type `[\w.]*?((?:Start|Else|Then|After|In|At|Joined)[^\s`]*) tie|where one has `lts\.(\S+)`)")
 
 
 def longer(line, col, by):
@@ -23,8 +23,9 @@ def longer(line, col, by):
 
 
 for crate in sys.argv[1:]:
-    for _ in range(7):
-        r = subprocess.run(["rt", "check", "--jobs", "2"], cwd=f"crates/{crate}", capture_output=True, text=True)
+    crate, _, only = crate.partition(":")
+    for _ in range(14 if only else 7):
+        r = subprocess.run(["rt", "check", "--jobs", "2"] + (["--only", crate + ":" + only] if only else []), cwd=f"crates/{crate}", capture_output=True, text=True)
         said = r.stdout + r.stderr
         places = {}
         for line in said.split("\n"):
@@ -33,7 +34,7 @@ for crate in sys.argv[1:]:
                 places.setdefault(m[1], []).append((int(m[2]), int(m[3]), -1))
                 continue
             m = OFF.match(line)
-            if m and ("but this has type `lts." in line or "the other has `lts." in line):
+            if m and ("but this has type `lts." in line or "but this has type `goal." in line or "the other has `lts." in line or "differ only where one has `lts." in line):
                 places.setdefault(m[1], []).append((int(m[2]), int(m[3]), 1))
         n = 0
         for path, at in places.items():

@@ -99,15 +99,15 @@ returns-then-not-valid_rows c =
 
 pub dispatch_action-requires : goal.dispatch_action-requires
 dispatch_action-requires c =
-    (ready-there c.before.before.before.before.before.before.before.before, heeded-there c, action-there c.before.before.before)
+    (ready-there c.before.before.before.before.before.before.before.before, heeded-there c.before, action-there c.before.before.before)
 
 pub returns : goal.returns
 returns c =
     let a = (start c.before.before.before.before.before.before.before.before.before).args in
     let good : (calls.valid_action here (to_action a.action) && every (valid_gossip here) (records_of a.rows a.given)) ≡ true = rw (action-there c.before.before.before.before, rows-there c.before.before) in
     let long : length (records_of a.rows a.given) ≡ a.given = records-long a.rows a.given (heeded-there c.before.before) in
-    let within = received_within (records_of a.rows a.given) (view_node a.node) a.draws.now (ready-there c.before.before.before.before.before.before.before.before.before).well-formed (omega (arith, c.if-given-gt-GOSSIP.false, long)) (rows-there c.before) (to_action a.action) (action-there c.before.before.before) (stored_view a.node) _ c.dispatch_action.result c.dispatch_action.ensures in (
-      c.dispatch_action.ensures ∙ in-range a.node (to_action a.action) a.rows a.given a.draws.now (record { gossip = a.gossip_room; events = a.event_room }) c.has_places.ensures (sound-there c.before.before.before.before.before.before.before.before) (room-there c.before.before.before.before.before.before) c.if-given-gt-GOSSIP.false good,
+    let within = received_within (records_of a.rows a.given) (view_node a.node) a.draws.now (ready-there c.before.before.before.before.before.before.before.before.before).good (omega (arith, c.if-given-gt-GOSSIP.false, long)) (rows-there c.before.before) (to_action a.action) (action-there c.before.before.before.before) (stored_view a.node) _ c.dispatch_action.result c.dispatch_action.ensures in (
+      c.dispatch_action.ensures ∙ in-range a.node (to_action a.action) a.rows a.given a.draws.now (record { gossip = a.gossip_room; events = a.event_room }) c.has_places.ensures (sound-there c.before.before.before.before.before.before.before.before.before) (room-there c.before.before.before.before.before.before.before) c.if-given-gt-GOSSIP.false good,
       omega (arith, within.0, c.if-gossip_room-lt-GOSSIP.false),
       within.0,
       omega (arith, within.1, c.if-event_room-lt-EVENTS.false),

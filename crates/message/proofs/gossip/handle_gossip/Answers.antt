@@ -41,6 +41,7 @@ use Rattle.message.proofs.gossip.handle_gossip.Tie as tie
 use Rattle.message.proofs.gossip.handle_gossip.Reads as reads
 use Rattle.message.proofs.gossip.handle_gossip.Invariants.{records, whole, current}
 use Rattle.message.proofs.gossip.handle_gossip.Goals as goal
+use Rattle.message.proofs.gossip.handle_gossip.Goals.{then-old-gt0, else-old-gt0, then-goes_to, else-goes_to}
 
 -- where its rules stop, if they do
 abbrev stops : Node → Lent → List ℕ → Cause
@@ -148,27 +149,27 @@ told f = f.before.before.before.before.before.before.before.before.before.before
 abbrev said : lts.Else3 tie.the-claims reads.Pre reads.Post goal.the-invariant-loop-i goal.the-decreases-loop-i tie.handed_clauses → handler.News Addr
 said f = to_news f.news_of-news.result
 
-has_room : (f : lts.Else3 tie.the-claims reads.Pre reads.Post goal.the-invariant-loop-i goal.the-decreases-loop-i tie.handed_clauses) (k : Kind) → let at = (told f).before.before.before.loop in RoomFor k (said f) (of_kind k (at.alive.len - f.old_news-old.result) at.deceased.len)
+has_room : (f : lts.Else3 tie.the-claims reads.Pre reads.Post goal.the-invariant-loop-i goal.the-decreases-loop-i tie.handed_clauses) (k : Kind) → let at = f.loop-i in RoomFor k (said f) (of_kind k (at.alive.len - f.old_news-old.result) at.deceased.len)
 has_room f k =
-    let at = (told f).before.before.before.loop in
+    let at = f.loop-i in
     room_for (said f) k (at.alive.len - f.old_news-old.result) at.deceased.len (sym f.finds_full.ensures ∙ f.if-finds_full.false)
 
 -- the alive heap without what the news outdates, cleared or as it came
-is-cleared : (j : lts.Joined4 tie.the-claims reads.Pre reads.Post goal.the-invariant-loop-i goal.the-decreases-loop-i tie.handed_clauses) → j.if-old-gt0.alive ≡ cleared_for j.old_news-old.result (said j.before) (told j.before).before.before.before.loop.alive
+is-cleared : (j : lts.Joined4 tie.the-claims reads.Pre reads.Post goal.the-invariant-loop-i goal.the-decreases-loop-i tie.handed_clauses) → j.if-old-gt0.alive ≡ cleared_for j.old_news-old.result (said j.before) j.loop-i.alive
 is-cleared j =
-    let alive = (told j.before).before.before.before.loop.alive in
-    ⊎_elim
-    (λ w. w.2 ∙ w.1.ensures)
-    (λ w.
-    let none : j.old_news-old.result ≡ 0 = omega (arith, w.0.left) in
-    w.1 ∙ sym (ap (λ (n : ℕ). cleared_for n (said j.before) alive) none ∙ cleared-none (said j.before) alive))
-    j.if-old-gt0.branch
+    let alive = j.loop-i.alive in
+    elim j.if-old-gt0.branch [
+      | then-old-gt0 w ↦ w.alive-is ∙ w.clear-alive.ensures
+      | else-old-gt0 w ↦
+          let none : j.old_news-old.result ≡ 0 = omega (arith, w.if-old-gt0.false) in
+          w.alive-is ∙ sym (ap (λ (n : ℕ). cleared_for n (said j.before) alive) none ∙ cleared-none (said j.before) alive)
+    ]
 
 -- it is whole, and has room
-clear-there : (j : lts.Joined4 tie.the-claims reads.Pre reads.Post goal.the-invariant-loop-i goal.the-decreases-loop-i tie.handed_clauses) → let at = (told j.before).before.before.before.loop in
+clear-there : (j : lts.Joined4 tie.the-claims reads.Pre reads.Post goal.the-invariant-loop-i goal.the-decreases-loop-i tie.handed_clauses) → let at = j.loop-i in
     j.if-old-gt0.alive ≡ cleared_for (collects_for (start (told j.before)).args.node.settings.collect (said j.before) (heap_view at.alive)) (said j.before) at.alive
 clear-there j =
-    let at = (told j.before).before.before.before.loop in
+    let at = j.loop-i in
     is-cleared j ∙ ap (λ (n : ℕ). cleared_for n (said j.before) at.alive) j.old_news-old.ensures.value
 
 -- Where the news has been told: the alive heap, the deceased heap and the row of the departed, changed or as they came
@@ -177,27 +178,28 @@ module _ (p : lts.Joined5 tie.the-claims reads.Pre reads.Post goal.the-invariant
   open-to = p.before.before.before
   abbrev judged : lts.After-verdict_at tie.the-claims reads.Pre reads.Post goal.the-invariant-loop-i goal.the-decreases-loop-i tie.handed_clauses
   judged = told open-to
-  is-alive : p.if-goes_to.alive ≡ told_to kind.Alive (said open-to) (cleared_for open-to.before.before.before.old-news.result (said open-to) judged.before.before.before.loop.alive)
+  is-alive : p.if-goes_to.alive ≡ told_to kind.Alive (said open-to) (cleared_for p.old_news-old.result (said open-to) p.loop-i.alive)
   is-alive =
-      ⊎_elim
-      (λ w. w.3 ∙ w.1.ensures ∙ ap (told_to kind.Alive (said open-to)) (is-cleared p.before.before))
-      (λ w. w.4 ∙ is-cleared p.before.before ∙ sym (told_elsewhere kind.Alive (said open-to) _ (sym p.Goes-to.ensures ∙ w.0.left)))
-      p.if-goes_to.branch
-  is-deceased : p.if-goes_to.deceased ≡ told_to kind.Deceased (said open-to) judged.before.before.before.loop.deceased
+      elim p.if-goes_to.branch [
+        | then-goes_to w ↦ w.alive-is ∙ w.tell-alive.ensures ∙ ap (told_to kind.Alive (said open-to)) (is-cleared p.before.before)
+        | else-goes_to w ↦ w.alive-is ∙ is-cleared p.before.before ∙ sym (told_elsewhere kind.Alive (said open-to) _ (sym p.goes_to.ensures ∙ w.if-goes_to.false))
+      ]
+  is-deceased : p.if-goes_to.deceased ≡ told_to kind.Deceased (said open-to) p.loop-i.deceased
   is-deceased =
-      ⊎_elim
-      (λ w. w.4 ∙ sym (told_elsewhere kind.Deceased (said open-to) _ (living-only (said open-to) (sym p.Goes-to.ensures ∙ w.0.taken))))
-      (λ w. w.5 ∙ w.2.ensures)
-      p.if-goes_to.branch
-  is_row : let at = judged.before.before.before.loop in p.if-goes_to.departed ≡ pack_departed (handler.row_after here (verdict judged) (view_members at.members).table (departed_view at.departed))
+      elim p.if-goes_to.branch [
+        | then-goes_to w ↦ w.deceased-is ∙ sym (told_elsewhere kind.Deceased (said open-to) _ (living-only (said open-to) (sym p.goes_to.ensures ∙ w.if-goes_to.true)))
+        | else-goes_to w ↦ w.deceased-is ∙ w.tell-deceased.ensures
+      ]
+  is_row : let at = p.loop-i in p.if-goes_to.departed ≡ pack_departed (handler.row_after here (verdict judged) (view_members at.members).table (departed_view at.departed))
   is_row =
-      let at = judged.before.before.before.loop in
-      ⊎_elim
-      (λ w.
-      let living : goes_to kind.Alive (news judged) ≡ true = sym (ap (goes_to kind.Alive) (is-news open-to.before.before.before.before)) ∙ sym p.Goes-to.ensures ∙ w.0.taken in
-      w.2 ∙ row_stays (reached judged) at.inv.3.ready (verdict judged) living)
-      (λ w. w.3 ∙ w.1.ensures ∙ ap (λ (x : handler.Verdict Addr). pack_departed (handler.row_after here x (view_members at.members).table (departed_view at.departed))) (is-verdict judged))
-      p.if-goes_to.branch
+      let at = p.loop-i in
+      elim p.if-goes_to.branch [
+        | then-goes_to w ↦
+            let living : goes_to kind.Alive (news judged) ≡ true = sym (ap (goes_to kind.Alive) (is-news open-to.before.before.before.before)) ∙ sym p.goes_to.ensures ∙ w.if-goes_to.true in
+            w.departed-is ∙ row_stays (reached judged) at.invariant.3.ready (verdict judged) living
+        | else-goes_to w ↦
+            w.departed-is ∙ w.row_after-departed.ensures ∙ ap (λ (x : handler.Verdict Addr). pack_departed (handler.row_after here x (view_members at.members).table (departed_view at.departed))) (is-verdict judged)
+      ]
 
 pub loop-i-init : goal.loop-i-init
 loop-i-init c =
@@ -229,11 +231,11 @@ loop-i-preserved-then-leaves_all c =
     let at = c.loop-i in
     let leaves = sym (ap leaves_all (is-verdict c.before.before.before)) ∙ sym c.leaves_all.ensures ∙ c.if-leaves_all.true in
     let acted = act-leaves (reached c.before.before.before) at.invariant.3.ready (verdict c.before.before.before) a.draws.now at.used at.invariant.3.within leaves in
-    let keeps = turn-keeps (to_optional a.lent.sender) (records a.lent) at.i (view_node (reached c.before.before.before)) (drop at.used a.draws.now) at.invariant.3.ready.good s.pre.1.valid s.pre.2 in (
-      omega (arith, is-due c.before.before.before.before),
+    let keeps = turn-keeps (to_optional a.lent.sender) (records a.lent) at.i (view_node (reached c.before.before.before)) (drop at.used a.draws.now) at.invariant.3.ready.good s.requires.1.valid s.requires.2 in (
+      omega (arith, is-due c.before.before.before.before.before),
       omega (arith, at.invariant.1),
-      counted_next (to_optional a.lent.sender) (records a.lent) (view_node a.node) a.draws.now at.used at.i (reached c.before.before) at.invariant.2 handler.Silent 0 (reached c.before.before) at.used keeps acted,
-      sofar_more (all c.before.before) a.draws.now (reached c.before.before) at.report at.used (rule c.before.before) (after c.before.before) (due c.before.before) handler.Silent 0 (reached c.before.before) at.used (omega arith) keeps (room c.before.before) acted,
+      counted_next (to_optional a.lent.sender) (records a.lent) (view_node a.node) a.draws.now at.used at.i (reached c.before.before.before) at.invariant.2 handler.Silent 0 (reached c.before.before.before) at.used keeps acted,
+      sofar_more (all c.before.before.before) a.draws.now (reached c.before.before.before) at.report at.used (rule c.before.before.before) (after c.before.before.before) (due c.before.before.before) handler.Silent 0 (reached c.before.before.before) at.used (omega arith) keeps (room c.before.before.before) acted,
       omega (arith, at.invariant.4),
     )
 
@@ -269,38 +271,38 @@ returns-then-finds_full c =
     let a = (start c.before.before.before.before.before.before.before.before.before.before.before.before.before.before).args in
     let at = c.loop-i in
     let e = act-full (reached c.before.before.before.before.before.before.before.before.before.before.before.before.before.before) at.invariant.3.ready (verdict c.before.before.before.before.before.before.before.before.before.before.before.before.before.before) a.draws.now at.used at.invariant.3.within c.list_after-kept.result (is-list c.before.before.before.before.before.before.before.before.before.before) c.in-Used.more c.in-Used.is (sym (is_full c.before.before.before.before) ∙ c.if-finds_full.true) in
-    let full : c.full_heap.result ≡ full_for (news c.before.before.before.before.before.before.before.before.before.before.before.before.before.before) = c.full_heap.ensures ∙ ap full_for (is-news c.before.before.before.before.before.before) in
-    c.refused-then-finds_full.ensures ∙ ap (λ (u : Refusal). refused_heard a.node u (handler.cause_at at.i a.lent.given)) full ∙ stopped c.before.before.before.before.before.before.before.before.before.before.before.before.before (full_for (news c.before.before.before.before.before.before.before.before.before.before.before.before.before)) e
+    let full : c.full_heap.result ≡ full_for (news c.before.before.before.before.before.before.before.before.before.before.before.before.before.before) = c.full_heap.ensures ∙ ap full_for (is-news c.before.before.before.before.before.before.before) in
+    c.refused-then-finds_full.ensures ∙ ap (λ (u : Refusal). refused_heard a.node u (handler.cause_at at.i a.lent.given)) full ∙ stopped c.before.before.before.before.before.before.before.before.before.before.before.before.before.before (full_for (news c.before.before.before.before.before.before.before.before.before.before.before.before.before.before)) e
 
 pub clear-alive-requires : goal.clear-alive-requires
-clear-alive-requires c = (told c.before.before).before.before.before.loop.inv.3.ready.heaps.alive
+clear-alive-requires c = c.loop-i.invariant.3.ready.heaps.alive
 
 pub tell-alive-requires : goal.tell-alive-requires
 tell-alive-requires c =
-    let at = (told c.before.before.before.before).before.before.before.loop in
-    let on = (start (told c.before.before.before)).args.node.settings.collect in
-    let fits = cleared_fits on (said c.before.before.before) at.alive at.inv.3.ready.heaps.alive in
+    let at = c.loop-i in
+    let on = (start (told c.before.before.before.before)).args.node.settings.collect in
+    let fits = cleared_fits on (said c.before.before.before.before) at.alive at.invariant.3.ready.heaps.alive in
     let long : at.alive.len - c.old_news-old.result ≡ c.if-old-gt0.alive.len =
-    ap (λ (n : ℕ). at.alive.len - n) c.old_news-old.ensures.value ∙ sym (ap (λ (h : Heap). h.len) (clear-there c.before.before) ∙ fits.1) in
-    (subst Packed (sym (clear-there c.before.before)) fits.0, subst (RoomFor kind.Alive (said c.before.before.before)) long (has_room c.before.before.before kind.Alive))
+    ap (λ (n : ℕ). at.alive.len - n) c.old_news-old.ensures.value ∙ sym (ap (λ (h : Heap). h.len) (clear-there c.before.before.before) ∙ fits.1) in
+    (subst Packed (sym (clear-there c.before.before.before)) fits.0, subst (RoomFor kind.Alive (said c.before.before.before.before)) long (has_room c.before.before.before.before kind.Alive))
 
 pub row_after-departed-requires : goal.row_after-departed-requires
-row_after-departed-requires c = let r = (told c.before.before.before.before).before.before.before.loop.inv.3.ready in (r.departed, r.members)
+row_after-departed-requires c = let r = c.loop-i.invariant.3.ready in (r.departed, r.members)
 
 pub tell-deceased-requires : goal.tell-deceased-requires
-tell-deceased-requires c = ((told c.before.before.before.before.before).before.before.before.loop.inv.3.ready.heaps.deceased, has_room c.before.before.before.before kind.Deceased)
+tell-deceased-requires c = (c.loop-i.invariant.3.ready.heaps.deceased, has_room c.before.before.before.before.before kind.Deceased)
 
 pub note-report-requires : goal.note-report-requires
 note-report-requires c =
     let v = told c.before.before.before.before.before in
-    let at = v.before.before.before.loop in
-    (room v, omega (arith, at.inv.4, is-due v.before, (start v).pre.1.few), few-old c.before.before.before.before.before.before.before)
+    let at = c.loop-i in
+    (room v, omega (arith, at.invariant.4, is-due v.before.before, (start v).requires.1.few), few-old c.before.before.before.before.before.before.before.before)
 
 pub overflow_add-i-in-loop-i : goal.overflow_add-i-in-loop-i
-overflow_add-i-in-loop-i c = let v = told c.before.before.before.before.before.before in omega (arith, is-due v.before.before, (start v).pre.1.few)
+overflow_add-i-in-loop-i c = let v = told c.before.before.before.before.before.before in omega (arith, is-due v.before.before, (start v).requires.1.few)
 
 pub loop-i-smaller : goal.loop-i-smaller
-loop-i-smaller c = omega (arith, is-due (told.before c.before.before.before.before.before.before).before)
+loop-i-smaller c = omega (arith, is-due (told c.before.before.before.before.before.before).before.before)
 
 pub loop-i-preserved : goal.loop-i-preserved
 unfolding view_node
@@ -314,14 +316,14 @@ loop-i-preserved c =
     let alive = c.if-goes_to.alive in
     let deceased = c.if-goes_to.deceased in
     let more = c.in-Used.more in
-    let acted = act_done (reached c.before.before.before.before.before.before.before.before.before.before.before.before.before.before.before.before.before) at.invariant.3.ready (verdict c.before.before.before.before.before.before.before.before.before.before.before.before.before.before.before.before) a.draws.now at.used at.invariant.3.within c.list_after-kept.result (is-list c.before.before.before.before.before.before.before.before.before.before.before.before) more c.in-Used.is departed alive deceased (is_row c.before.before) (is-alive c.before.before ∙ (λ i. told_to kind.Alive (is-news c.before.before.before.before.before.before.before.before.before i) (cleared_for (is-old c.before.before.before.before.before.before.before.before i) (is-news c.before.before.before.before.before.before.before.before.before i) at.alive))) (is-deceased c.before.before ∙ ap (λ (x : handler.News Addr). told_to kind.Deceased x at.deceased) (is-news c.before.before.before.before.before.before.before.before.before)) (sym (is_full c.before.before.before.before.before.before) ∙ c.if-finds_full.false) in
+    let acted = act_done (reached c.before.before.before.before.before.before.before.before.before.before.before.before.before.before.before.before.before) at.invariant.3.ready (verdict c.before.before.before.before.before.before.before.before.before.before.before.before.before.before.before.before.before) a.draws.now at.used at.invariant.3.within c.list_after-kept.result (is-list c.before.before.before.before.before.before.before.before.before.before.before.before.before) more c.in-Used.is departed alive deceased (is_row c.before.before.before) (is-alive c.before.before.before ∙ (λ i. told_to kind.Alive (is-news c.before.before.before.before.before.before.before.before.before.before i) (cleared_for (is-old c.before.before.before.before.before.before.before.before.before i) (is-news c.before.before.before.before.before.before.before.before.before.before i) at.alive))) (is-deceased c.before.before.before ∙ ap (λ (x : handler.News Addr). told_to kind.Deceased x at.deceased) (is-news c.before.before.before.before.before.before.before.before.before.before)) (sym (is_full c.before.before.before.before.before.before.before) ∙ c.if-finds_full.false) in
     let counts = noted_collected at.report w a.node.settings.collect (heap_view at.alive) in
-    let keeps = turn-keeps (to_optional a.lent.sender) (records a.lent) at.i (view_node (reached c.before.before.before.before.before.before.before.before.before.before.before.before.before.before.before.before)) (drop at.used a.draws.now) at.invariant.3.ready.good s.pre.1.valid s.pre.2 in (
-      omega (arith, is-due c.before.before.before.before.before.before.before.before.before.before.before.before.before.before.before.before.before.before),
-      omega (arith, ap (λ (x : Report). x.count) n, noted_few at.report w (old c.before.before.before.before.before.before.before.before.before.before.before.before.before.before.before.before), at.invariant.1),
-      counted_next (to_optional a.lent.sender) (records a.lent) (view_node a.node) a.draws.now at.used at.i (reached c.before.before.before.before.before.before.before.before.before.before.before.before.before.before.before.before) at.invariant.2 w (old c.before.before.before.before.before.before.before.before.before.before.before.before.before.before.before.before) (current a.node c.list_after-kept.result.members departed alive deceased) (at.used + more) keeps acted,
-      rw n (sofar_more (all c.before.before.before.before.before.before.before.before.before.before.before.before.before.before.before.before) a.draws.now (reached c.before.before.before.before.before.before.before.before.before.before.before.before.before.before.before.before) at.report at.used (rule c.before.before.before.before.before.before.before.before.before.before.before.before.before.before.before.before) (after c.before.before.before.before.before.before.before.before.before.before.before.before.before.before.before.before) (due c.before.before.before.before.before.before.before.before.before.before.before.before.before.before.before.before) w (old c.before.before.before.before.before.before.before.before.before.before.before.before.before.before.before.before) (current a.node c.list_after-kept.result.members departed alive deceased) (at.used + more) counts keeps (room c.before.before.before.before.before.before.before.before.before.before.before.before.before.before.before.before) acted),
-      omega (arith, ap (λ (x : Report). x.collected) n, counts, is-old c.before.before.before.before.before.before.before.before, few-old c.before.before.before.before.before.before.before.before, at.invariant.4),
+    let keeps = turn-keeps (to_optional a.lent.sender) (records a.lent) at.i (view_node (reached c.before.before.before.before.before.before.before.before.before.before.before.before.before.before.before.before.before)) (drop at.used a.draws.now) at.invariant.3.ready.good s.requires.1.valid s.requires.2 in (
+      omega (arith, is-due c.before.before.before.before.before.before.before.before.before.before.before.before.before.before.before.before.before.before.before),
+      omega (arith, ap (λ (x : Report). x.count) n, noted_few at.report w (old c.before.before.before.before.before.before.before.before.before.before.before.before.before.before.before.before.before), at.invariant.1),
+      counted_next (to_optional a.lent.sender) (records a.lent) (view_node a.node) a.draws.now at.used at.i (reached c.before.before.before.before.before.before.before.before.before.before.before.before.before.before.before.before.before) at.invariant.2 w (old c.before.before.before.before.before.before.before.before.before.before.before.before.before.before.before.before.before) (current a.node c.list_after-kept.result.members departed alive deceased) (at.used + more) keeps acted,
+      rw n (sofar_more (all c.before.before.before.before.before.before.before.before.before.before.before.before.before.before.before.before.before) a.draws.now (reached c.before.before.before.before.before.before.before.before.before.before.before.before.before.before.before.before.before) at.report at.used (rule c.before.before.before.before.before.before.before.before.before.before.before.before.before.before.before.before.before) (after c.before.before.before.before.before.before.before.before.before.before.before.before.before.before.before.before.before) (due c.before.before.before.before.before.before.before.before.before.before.before.before.before.before.before.before.before) w (old c.before.before.before.before.before.before.before.before.before.before.before.before.before.before.before.before) (current a.node c.list_after-kept.result.members departed alive deceased) (at.used + more) counts keeps (room c.before.before.before.before.before.before.before.before.before.before.before.before.before.before.before.before) acted),
+      omega (arith, ap (λ (x : Report). x.collected) n, counts, is-old c.before.before.before.before.before.before.before.before.before, few-old c.before.before.before.before.before.before.before.before.before, at.invariant.4),
     )
 
 pub returns : goal.returns
