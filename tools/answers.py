@@ -222,7 +222,7 @@ class Turner:
             return m[0]
 
         text = re.sub(r"tie\.((?:After|Then|Else|At|In|Start|Joined|Untold)[^\s()]*)(?: invariant-\S+?(?=[ )])| decreases-\S+?(?=[ )]))*", one, text)
-        return re.sub(r" (?:invariant|decreases)-[^\s()]+", "", text) if "tie." not in text.replace("tie.the-claims", "") else text
+        return re.sub(r" (?:invariant|decreases)-[^\s()]+", "", text) if "tie." not in text.replace("tie.the-claims", "").replace("tie.handed_clauses", "") else text
 
     def invariant(self, block):
         """An invariant or a measure of a loop, over the record of its variables."""
@@ -479,7 +479,7 @@ def turn(path, function, crate):
         again = False
         for h in helpers:
             n = name_of(h)
-            if h not in moved and re.search(rf"(?<![^\s(){{}}\[\];,]){re.escape(n)}(?![^\s(){{}}\[\];,])", inv_text + "\n".join(moved)):
+            if h not in moved and re.search(rf"(?<![^\s(){{}}\[\];,]){re.escape(n)}(?![^\s(){{}}\[\];,])", re.sub(r"(?m)--.*$", "", inv_text + "\n" + "\n".join(moved))):
                 moved.append(h)
                 again = True
     helpers = [h for h in helpers if h not in moved]
@@ -491,7 +491,8 @@ def turn(path, function, crate):
                 h = re.sub(rf"(?m)^  ({WORD}) :", r"  pub \1 :", h)
             h = re.sub(r"(?m)^(record|data) ", r"pub \1 ", h, count=1)
             if not re.search(r"(?m)^(abbrev )?pub ", h):
-                h = re.sub(r"(?m)^abbrev ", "abbrev pub ", h, count=1) if h.startswith("abbrev") else "pub " + h
+                n = re.escape(name_of(h))
+                h = re.sub(rf"(?m)^(abbrev |unfoldable )?({n}) :", lambda m: f"{m[1] or ''}pub {m[2]} :", h, count=1)
             pub.append(h)
         out = note + "\n" + "\n".join(uses + [f"use {module}.Given as goal"]) + "\n\n" + "\n\n".join(pub + invariants) + "\n"
         with open(os.path.join(folder, "Invariants.antt"), "w", encoding="utf-8") as f:

@@ -40,16 +40,16 @@ handle_gossip-heard-requires c = let p = c.requires in (p.0, p.1, refl)
 
 pub acknowledge-requires : goal.acknowledge-requires
 acknowledge-requires c =
-    (heard_ready c.args.node c.args.draws.now (where-stopped c.before.before.before) (whole c.before.before.before) c.handle_gossip-heard.result (keeps c.before.before.before) (told c.before) _ c.in-Used.is, c.requires.1.few)
+    (heard_ready c.args.node c.args.draws.now (where-stopped c.before.before.before.before) (whole c.before.before.before.before) c.handle_gossip-heard.result (keeps c.before.before.before.before) (told c.before) _ c.in-Used.is, c.requires.1.few)
 
 pub returns-in-Used : goal.returns-in-Used
 unfolding handler.handle
 returns-in-Used c =
     let a = c.args in
     c.acknowledge.ensures
-    ∙ acknowledged_is a.node a.draws.now (where-stopped c.before.before.before.before) (whole c.before.before.before.before) c.handle_gossip-heard.result c.in-Used.used a.from a.rows a.given a.forward-to c.requires.1 (keeps c.before.before.before.before) (told c.before.before) c.in-Used.is
+    ∙ acknowledged_is a.node a.draws.now (where-stopped c.before.before.before.before.before) (whole c.before.before.before.before.before) c.handle_gossip-heard.result c.in-Used.used a.from a.rows a.given a.forward_to c.requires.1 (keeps c.before.before.before.before.before) (told c.before.before) c.in-Used.is
 
 pub returns-in-Refused : goal.returns-in-Refused
 unfolding handler.handle
 returns-in-Refused c =
-    c.refused.ensures ∙ refused-heard c.args.node c.args.draws.now (where-stopped c.before.before.before.before) (whole c.before.before.before.before) c.handle_gossip-heard.result _ _ (told c.before.before) c.in-Refused.is
+    c.refused.ensures ∙ refused-heard c.args.node c.args.draws.now (where-stopped c.before.before.before.before.before) (whole c.before.before.before.before.before) c.handle_gossip-heard.result _ _ (told c.before.before) c.in-Refused.is

@@ -43,7 +43,7 @@ handle_gossip-heard-requires c = c.requires
 
 pub answer-requires : goal.answer-requires
 answer-requires c =
-    heard_ready c.args.node c.args.draws.now (where-stopped c.before.before.before.before.before.before) (whole c.before.before.before.before.before.before) c.handle_gossip-heard.result (keeps c.before.before.before.before.before.before) (told c.before.before.before.before) _ c.in-Used.is
+    heard_ready c.args.node c.args.draws.now (where-stopped c.before.before.before.before.before.before.before) (whole c.before.before.before.before.before.before.before) c.handle_gossip-heard.result (keeps c.before.before.before.before.before.before.before) (told c.before.before.before.before) _ c.in-Used.is
 
 pub returns-in-Used : goal.returns-in-Used
 unfolding handler.handle view_node
@@ -53,10 +53,10 @@ returns-in-Used c =
     let used = c.in-Used.used in
     c.answer.ensures
     ∙ ap (λ (x : Action). answered_of used heard c.ack_target-target.result x) c.new_ack.ensures
-    ∙ ap (λ (x : Addr). answered_of used heard x (action.Ack a.node.own a.requested-by)) c.ack_target-target.ensures
-    ∙ answered_is a.node a.draws.now (where-stopped c.before.before.before.before.before.before.before) (whole c.before.before.before.before.before.before.before) heard used _ _ (keeps c.before.before.before.before.before.before.before) (told c.before.before.before.before.before) c.in-Used.is
+    ∙ ap (λ (x : Addr). answered_of used heard x (action.Ack a.node.own a.requested_by)) c.ack_target-target.ensures
+    ∙ answered_is a.node a.draws.now (where-stopped c.before.before.before.before.before.before.before.before) (whole c.before.before.before.before.before.before.before.before) heard used _ _ (keeps c.before.before.before.before.before.before.before.before) (told c.before.before.before.before.before) c.in-Used.is
 
 pub returns-in-Refused : goal.returns-in-Refused
 unfolding handler.handle view_node
 returns-in-Refused c =
-    c.refused.ensures ∙ refused-heard c.args.node c.args.draws.now (where-stopped c.before.before.before.before) (whole c.before.before.before.before) c.handle_gossip-heard.result _ _ (told c.before.before) c.in-Refused.is
+    c.refused.ensures ∙ refused-heard c.args.node c.args.draws.now (where-stopped c.before.before.before.before.before) (whole c.before.before.before.before.before) c.handle_gossip-heard.result _ _ (told c.before.before) c.in-Refused.is

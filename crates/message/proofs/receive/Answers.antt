@@ -46,8 +46,8 @@ events-short g e h k = rw (le-ltb g 64 h, lt-ltb e 65 k)
 long-enough : (g e : ℕ) → 64 ≤ g → 65 ≤ e → calls.short message_room (record { gossip = g; events = e }) ≡ false
 long-enough g e h k = rw (le-ltb g 64 h, le-ltb e 65 k)
 
-room-there : (c : lts.Else3 tie.the-claims reads.Pre reads.Post) → let a = (start c.before.before).args in calls.short message_room (record { gossip = a.gossip-room; events = a.event-room }) ≡ false
-room-there c = let a = (start c.before.before).args in long-enough a.gossip-room a.event-room c.if-gossip_room-lt-GOSSIP.false c.if-event_room-lt-EVENTS.false
+room-there : (c : lts.Else3 tie.the-claims reads.Pre reads.Post) → let a = (start c.before.before).args in calls.short message_room (record { gossip = a.gossip_room; events = a.event_room }) ≡ false
+room-there c = let a = (start c.before.before).args in long-enough a.gossip_room a.event_room c.if-gossip_room-lt-GOSSIP.false c.if-event_room-lt-EVENTS.false
 
 action-there : (c : lts.Else5 tie.the-claims reads.Pre reads.Post) → calls.valid_action here (to_action (start c.before.before.before.before.before).args.action) ≡ true
 action-there c = sym c.valid_action.ensures ∙ c.if-not-valid_action.false
@@ -62,52 +62,52 @@ heeded-there c =
 pub returns-then-not-sound : goal.returns-then-not-sound
 returns-then-not-sound c =
     let a = c.args in
-    refused_within a.node (Refused Unsound) c.refused.result _ a.gossip-room a.event-room c.refused.ensures
-    (not_sound a.node (to_action a.action) a.rows a.given a.draws.now (record { gossip = a.gossip-room; events = a.event-room }) c.has_places.ensures (sym c.sound.ensures ∙ c.if-not-sound.true))
+    refused_within a.node (Refused Unsound) c.refused.result _ a.gossip_room a.event_room c.refused.ensures
+    (not_sound a.node (to_action a.action) a.rows a.given a.draws.now (record { gossip = a.gossip_room; events = a.event_room }) c.has_places.ensures (sym c.sound.ensures ∙ c.if-not-sound.true))
 
 pub returns-then-gossip_room-lt-GOSSIP : goal.returns-then-gossip_room-lt-GOSSIP
 returns-then-gossip_room-lt-GOSSIP c =
-    let a = (start c.before.before).args in
-    refused_within a.node (Refused ShortRow) c.refused-then-gossip_room-lt-GOSSIP.result _ a.gossip-room a.event-room c.refused-then-gossip_room-lt-GOSSIP.ensures
-    (row-short a.node (to_action a.action) a.rows a.given a.draws.now (record { gossip = a.gossip-room; events = a.event-room }) c.has_places.ensures (sound-there c.before.before) (gossip-short a.gossip-room a.event-room c.if-gossip_room-lt-GOSSIP.true))
+    let a = (start c.before.before.before).args in
+    refused_within a.node (Refused ShortRow) c.refused-then-gossip_room-lt-GOSSIP.result _ a.gossip_room a.event_room c.refused-then-gossip_room-lt-GOSSIP.ensures
+    (row-short a.node (to_action a.action) a.rows a.given a.draws.now (record { gossip = a.gossip_room; events = a.event_room }) c.has_places.ensures (sound-there c.before.before.before) (gossip-short a.gossip_room a.event_room c.if-gossip_room-lt-GOSSIP.true))
 
 pub returns-then-event_room-lt-EVENTS : goal.returns-then-event_room-lt-EVENTS
 returns-then-event_room-lt-EVENTS c =
-    let a = (start c.before.before.before).args in
-    refused_within a.node (Refused ShortRow) c.refused-then-event_room-lt-EVENTS.result _ a.gossip-room a.event-room c.refused-then-event_room-lt-EVENTS.ensures
-    (row-short a.node (to_action a.action) a.rows a.given a.draws.now (record { gossip = a.gossip-room; events = a.event-room }) c.has_places.ensures (sound-there c.before.before.before) (events-short a.gossip-room a.event-room c.if-gossip_room-lt-GOSSIP.false c.if-event_room-lt-EVENTS.true))
+    let a = (start c.before.before.before.before).args in
+    refused_within a.node (Refused ShortRow) c.refused-then-event_room-lt-EVENTS.result _ a.gossip_room a.event_room c.refused-then-event_room-lt-EVENTS.ensures
+    (row-short a.node (to_action a.action) a.rows a.given a.draws.now (record { gossip = a.gossip_room; events = a.event_room }) c.has_places.ensures (sound-there c.before.before.before.before) (events-short a.gossip_room a.event_room c.if-gossip_room-lt-GOSSIP.false c.if-event_room-lt-EVENTS.true))
 
 pub returns-then-given-gt-GOSSIP : goal.returns-then-given-gt-GOSSIP
 returns-then-given-gt-GOSSIP c =
-    let a = (start c.before.before.before.before).args in
-    refused_within a.node (Refused ManyRecords) c.refused-then-given-gt-GOSSIP.result _ a.gossip-room a.event-room c.refused-then-given-gt-GOSSIP.ensures
-    (too_many a.node (to_action a.action) a.rows a.given a.draws.now (record { gossip = a.gossip-room; events = a.event-room }) c.has_places.ensures (sound-there c.before.before.before.before) (room-there c.before.before) c.if-given-gt-GOSSIP.true)
+    let a = (start c.before.before.before.before.before).args in
+    refused_within a.node (Refused ManyRecords) c.refused-then-given-gt-GOSSIP.result _ a.gossip_room a.event_room c.refused-then-given-gt-GOSSIP.ensures
+    (too_many a.node (to_action a.action) a.rows a.given a.draws.now (record { gossip = a.gossip_room; events = a.event_room }) c.has_places.ensures (sound-there c.before.before.before.before.before) (room-there c.before.before.before) c.if-given-gt-GOSSIP.true)
 
 pub returns-then-not-valid_action : goal.returns-then-not-valid_action
 returns-then-not-valid_action c =
-    let a = (start c.before.before.before.before.before.before).args in
+    let a = (start c.before.before.before.before.before.before.before).args in
     let bad : (calls.valid_action here (to_action a.action) && every (valid_gossip here) (records_of a.rows a.given)) ≡ false = rw (sym c.valid_action.ensures ∙ c.if-not-valid_action.true) in
-    refused_within a.node (Refused AddressRange) c.refused-then-not-valid_action.result _ a.gossip-room a.event-room c.refused-then-not-valid_action.ensures
-    (out_of_range a.node (to_action a.action) a.rows a.given a.draws.now (record { gossip = a.gossip-room; events = a.event-room }) c.has_places.ensures (sound-there c.before.before.before.before.before.before) (room-there c.before.before.before.before) c.if-given-gt-GOSSIP.false bad)
+    refused_within a.node (Refused AddressRange) c.refused-then-not-valid_action.result _ a.gossip_room a.event_room c.refused-then-not-valid_action.ensures
+    (out_of_range a.node (to_action a.action) a.rows a.given a.draws.now (record { gossip = a.gossip_room; events = a.event_room }) c.has_places.ensures (sound-there c.before.before.before.before.before.before.before) (room-there c.before.before.before.before.before) c.if-given-gt-GOSSIP.false bad)
 
 pub returns-then-not-valid_rows : goal.returns-then-not-valid_rows
 returns-then-not-valid_rows c =
-    let a = (start c.before.before.before.before.before.before.before.before).args in
-    let bad : (calls.valid_action here (to_action a.action) && every (valid_gossip here) (records_of a.rows a.given)) ≡ false = rw (action-there c.before.before.before, sym c.valid_rows.ensures ∙ c.if-not-valid_rows.true) in
-    refused_within a.node (Refused AddressRange) c.refused-then-not-valid_rows.result _ a.gossip-room a.event-room c.refused-then-not-valid_rows.ensures
-    (out_of_range a.node (to_action a.action) a.rows a.given a.draws.now (record { gossip = a.gossip-room; events = a.event-room }) c.has_places.ensures (sound-there c.before.before.before.before.before.before.before.before) (room-there c.before.before.before.before.before.before) c.if-given-gt-GOSSIP.false bad)
+    let a = (start c.before.before.before.before.before.before.before.before.before).args in
+    let bad : (calls.valid_action here (to_action a.action) && every (valid_gossip here) (records_of a.rows a.given)) ≡ false = rw (action-there c.before.before.before.before, sym c.valid_rows.ensures ∙ c.if-not-valid_rows.true) in
+    refused_within a.node (Refused AddressRange) c.refused-then-not-valid_rows.result _ a.gossip_room a.event_room c.refused-then-not-valid_rows.ensures
+    (out_of_range a.node (to_action a.action) a.rows a.given a.draws.now (record { gossip = a.gossip_room; events = a.event_room }) c.has_places.ensures (sound-there c.before.before.before.before.before.before.before.before.before) (room-there c.before.before.before.before.before.before.before) c.if-given-gt-GOSSIP.false bad)
 
 pub dispatch_action-requires : goal.dispatch_action-requires
 dispatch_action-requires c =
-    (ready-there c.before.before.before.before.before.before.before, heeded-there c, action-there c.before.before)
+    (ready-there c.before.before.before.before.before.before.before.before, heeded-there c, action-there c.before.before.before)
 
 pub returns : goal.returns
 returns c =
-    let a = (start c.before.before.before.before.before.before.before.before).args in
-    let good : (calls.valid_action here (to_action a.action) && every (valid_gossip here) (records_of a.rows a.given)) ≡ true = rw (action-there c.before.before.before, rows-there c.before) in
-    let long : length (records_of a.rows a.given) ≡ a.given = records-long a.rows a.given (heeded-there c.before) in
-    let within = received_within (records_of a.rows a.given) (view_node a.node) a.draws.now (ready-there c.before.before.before.before.before.before.before.before).well-formed (omega (arith, c.if-given-gt-GOSSIP.false, long)) (rows-there c.before) (to_action a.action) (action-there c.before.before.before) (stored_view a.node) _ c.dispatch_action.result c.dispatch_action.ensures in (
-      c.dispatch_action.ensures ∙ in-range a.node (to_action a.action) a.rows a.given a.draws.now (record { gossip = a.gossip-room; events = a.event-room }) c.has_places.ensures (sound-there c.before.before.before.before.before.before.before.before) (room-there c.before.before.before.before.before.before) c.if-given-gt-GOSSIP.false good,
+    let a = (start c.before.before.before.before.before.before.before.before.before).args in
+    let good : (calls.valid_action here (to_action a.action) && every (valid_gossip here) (records_of a.rows a.given)) ≡ true = rw (action-there c.before.before.before.before, rows-there c.before.before) in
+    let long : length (records_of a.rows a.given) ≡ a.given = records-long a.rows a.given (heeded-there c.before.before) in
+    let within = received_within (records_of a.rows a.given) (view_node a.node) a.draws.now (ready-there c.before.before.before.before.before.before.before.before.before).well-formed (omega (arith, c.if-given-gt-GOSSIP.false, long)) (rows-there c.before) (to_action a.action) (action-there c.before.before.before) (stored_view a.node) _ c.dispatch_action.result c.dispatch_action.ensures in (
+      c.dispatch_action.ensures ∙ in-range a.node (to_action a.action) a.rows a.given a.draws.now (record { gossip = a.gossip_room; events = a.event_room }) c.has_places.ensures (sound-there c.before.before.before.before.before.before.before.before) (room-there c.before.before.before.before.before.before) c.if-given-gt-GOSSIP.false good,
       omega (arith, within.0, c.if-gossip_room-lt-GOSSIP.false),
       within.0,
       omega (arith, within.1, c.if-event_room-lt-EVENTS.false),

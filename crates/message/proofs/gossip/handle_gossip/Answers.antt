@@ -39,7 +39,7 @@ use Rattle.message.specs.Hearing.{Sofar, ahead, turn, turn-keeps, records-long, 
 use Rattle.message.proofs.gossip.handle_gossip.Lts as lts
 use Rattle.message.proofs.gossip.handle_gossip.Tie as tie
 use Rattle.message.proofs.gossip.handle_gossip.Reads as reads
-use Rattle.message.proofs.gossip.handle_gossip.Invariants.{records, whole, current, news, start, verdict}
+use Rattle.message.proofs.gossip.handle_gossip.Invariants.{records, whole, current}
 use Rattle.message.proofs.gossip.handle_gossip.Goals as goal
 
 -- where its rules stop, if they do
@@ -52,6 +52,10 @@ many s = records-long s.args.lent.rows s.args.lent.given s.requires.1
 is-due : (c : lts.Then1 tie.the-claims reads.Pre reads.Post goal.the-invariant-loop-i goal.the-decreases-loop-i tie.handed_clauses) → c.loop-i.i ≤ c.args.lent.given
 is-due c = omega (arith, c.loop-i-test.true)
 
+-- where a call starts, and the loop as a verdict is given
+abbrev start : lts.After-verdict_at tie.the-claims reads.Pre reads.Post goal.the-invariant-loop-i goal.the-decreases-loop-i tie.handed_clauses → lts.Start tie.the-claims reads.Pre reads.Post goal.the-invariant-loop-i goal.the-decreases-loop-i tie.handed_clauses
+start v = v.before.before.before.before.before.before.before.before.before.before.before
+
 abbrev all : lts.After-verdict_at tie.the-claims reads.Pre reads.Post goal.the-invariant-loop-i goal.the-decreases-loop-i tie.handed_clauses → Answer (M.Out Addr)
 all v = let a = (start v).args in whole a.node a.lent a.draws.now
 
@@ -63,6 +67,13 @@ room v = omega (arith, is-due v.before.before, v.loop-i.invariant.1, (start v).r
 
 abbrev where-stopped : lts.Start tie.the-claims reads.Pre reads.Post goal.the-invariant-loop-i goal.the-decreases-loop-i tie.handed_clauses → Cause
 where-stopped s = let a = s.args in stops a.node a.lent a.draws.now
+
+-- the verdict, and what is ahead of it
+abbrev verdict : lts.After-verdict_at tie.the-claims reads.Pre reads.Post goal.the-invariant-loop-i goal.the-decreases-loop-i tie.handed_clauses → handler.Verdict Addr
+verdict v =
+    let a = (start v).args in
+    let at = v.loop-i in
+    verdict_at a.node.own (view_members at.members).table (deaths_of a.node.settings.remember at.departed at.deceased) (records a.lent) (to_optional a.lent.sender) at.i
 
 abbrev rule : lts.After-verdict_at tie.the-claims reads.Pre reads.Post goal.the-invariant-loop-i goal.the-decreases-loop-i tie.handed_clauses → M.Node Addr → List ℕ → Answer (M.Out Addr)
 rule v = let a = (start v).args in turn (to_optional a.lent.sender) (records a.lent) v.loop-i.i
@@ -90,6 +101,9 @@ is-news : (w : lts.After-news_of tie.the-claims reads.Pre reads.Post goal.the-in
 is-news w =
     let own = (start w.before.before.before.before.before.before.before).args.node.own in
     ap to_news w.news_of-news.ensures ∙ to_from_news (handler.news_of here (to_verdict w.verdict_at-verdict.result) own) ∙ ap (λ (x : handler.Verdict Addr). handler.news_of here x own) (is-verdict w.before.before.before.before.before.before.before)
+
+abbrev news : lts.After-verdict_at tie.the-claims reads.Pre reads.Post goal.the-invariant-loop-i goal.the-decreases-loop-i tie.handed_clauses → handler.News Addr
+news v = handler.news_of here (verdict v) (start v).args.node.own
 
 -- how many held events the news outdates
 abbrev old : lts.After-verdict_at tie.the-claims reads.Pre reads.Post goal.the-invariant-loop-i goal.the-decreases-loop-i tie.handed_clauses → ℕ
@@ -128,7 +142,7 @@ stopped v u e =
     let said : all v ≡ refused u = sofar_refused (all v) a.draws.now (reached v) at.report at.used (rule v) (after v) (due v) u e in
     (λ i. refused_heard a.node u (sym here_at i)) ∙ sym (ap (heard_of a.node a.draws.now (where-stopped (start v))) said)
 
-abbrev told : lts.Else3 tie.the-claims reads.Pre reads.Post goal.the-invariant-loop-i goal.the-decreases-loop-i tie.handed_clauses → lts.After-verdict_at tie.the-claims reads.Pre reads.Post goal.the-invariant-loop-i goal.the-decreases-loop-i tie.handed_clauses decreases-loop
+abbrev told : lts.Else3 tie.the-claims reads.Pre reads.Post goal.the-invariant-loop-i goal.the-decreases-loop-i tie.handed_clauses → lts.After-verdict_at tie.the-claims reads.Pre reads.Post goal.the-invariant-loop-i goal.the-decreases-loop-i tie.handed_clauses
 told f = f.before.before.before.before.before.before.before.before.before.before.before
 
 abbrev said : lts.Else3 tie.the-claims reads.Pre reads.Post goal.the-invariant-loop-i goal.the-decreases-loop-i tie.handed_clauses → handler.News Addr
@@ -159,9 +173,9 @@ clear-there j =
 
 -- Where the news has been told: the alive heap, the deceased heap and the row of the departed, changed or as they came
 module _ (p : lts.Joined5 tie.the-claims reads.Pre reads.Post goal.the-invariant-loop-i goal.the-decreases-loop-i tie.handed_clauses) where
-  abbrev open-to : lts.Else3 tie.the-claims reads.Pre reads.Post goal.the-invariant-loop-i goal.the-decreases-loop-i tie.handed_clauses decreases-loop
+  abbrev open-to : lts.Else3 tie.the-claims reads.Pre reads.Post goal.the-invariant-loop-i goal.the-decreases-loop-i tie.handed_clauses
   open-to = p.before.before.before
-  abbrev judged : lts.After-verdict_at tie.the-claims reads.Pre reads.Post goal.the-invariant-loop-i goal.the-decreases-loop-i tie.handed_clauses decreases-loop
+  abbrev judged : lts.After-verdict_at tie.the-claims reads.Pre reads.Post goal.the-invariant-loop-i goal.the-decreases-loop-i tie.handed_clauses
   judged = told open-to
   is-alive : p.if-goes_to.alive ≡ told_to kind.Alive (said open-to) (cleared_for open-to.before.before.before.old-news.result (said open-to) judged.before.before.before.loop.alive)
   is-alive =
@@ -201,21 +215,21 @@ verdict_at-verdict-requires c =
     (r.members, r.departed, r.heaps.deceased, c.requires.1)
 
 pub overflow_add-i : goal.overflow_add-i
-overflow_add-i c = omega (arith, is-due c.before.before.before.before, (start c.before.before).requires.1.few)
+overflow_add-i c = omega (arith, is-due c.before.before.before.before.before, (start c.before.before.before).requires.1.few)
 
 pub loop-i-smaller-then-leaves_all : goal.loop-i-smaller-then-leaves_all
-loop-i-smaller-then-leaves_all c = omega (arith, is-due c.before.before.before.before)
+loop-i-smaller-then-leaves_all c = omega (arith, is-due c.before.before.before.before.before)
 
 -- a verdict that leaves all as it is: the turn is over
 pub loop-i-preserved-then-leaves_all : goal.loop-i-preserved-then-leaves_all
 unfolding view_node
 loop-i-preserved-then-leaves_all c =
-    let s = start c.before.before in
+    let s = start c.before.before.before in
     let a = s.args in
     let at = c.loop-i in
-    let leaves = sym (ap leaves_all (is-verdict c.before.before)) ∙ sym c.leaves_all.ensures ∙ c.if-leaves_all.true in
-    let acted = act-leaves (reached c.before.before) at.invariant.3.ready (verdict c.before.before) a.draws.now at.used at.invariant.3.within leaves in
-    let keeps = turn-keeps (to_optional a.lent.sender) (records a.lent) at.i (view_node (reached c.before.before)) (drop at.used a.draws.now) at.invariant.3.ready.good s.pre.1.valid s.pre.2 in (
+    let leaves = sym (ap leaves_all (is-verdict c.before.before.before)) ∙ sym c.leaves_all.ensures ∙ c.if-leaves_all.true in
+    let acted = act-leaves (reached c.before.before.before) at.invariant.3.ready (verdict c.before.before.before) a.draws.now at.used at.invariant.3.within leaves in
+    let keeps = turn-keeps (to_optional a.lent.sender) (records a.lent) at.i (view_node (reached c.before.before.before)) (drop at.used a.draws.now) at.invariant.3.ready.good s.pre.1.valid s.pre.2 in (
       omega (arith, is-due c.before.before.before.before),
       omega (arith, at.invariant.1),
       counted_next (to_optional a.lent.sender) (records a.lent) (view_node a.node) a.draws.now at.used at.i (reached c.before.before) at.invariant.2 handler.Silent 0 (reached c.before.before) at.used keeps acted,
@@ -231,17 +245,17 @@ overflow_add-used c =
     let at = c.loop-i in
     omega (
       arith,
-      (fits (start c.before.before.before.before.before)).fits,
-      drawn_within (reached c.before.before.before.before.before) at.invariant.3.ready (verdict c.before.before.before.before.before) (start c.before.before.before.before.before).args.draws.now at.used at.invariant.3.within c.list_after-kept.result (is-list c.before) c.in-Used.more c.in-Used.is,
+      (fits (start c.before.before.before.before.before.before)).fits,
+      drawn_within (reached c.before.before.before.before.before.before) at.invariant.3.ready (verdict c.before.before.before.before.before.before) (start c.before.before.before.before.before.before).args.draws.now at.used at.invariant.3.within c.list_after-kept.result (is-list c.before.before) c.in-Used.more c.in-Used.is,
     )
 
 pub returns-in-Refused : goal.returns-in-Refused
 unfolding view_node
 returns-in-Refused c =
-    let a = (start c.before.before.before.before.before.before).args in
+    let a = (start c.before.before.before.before.before.before.before).args in
     let at = c.loop-i in
-    let e = act-refused (reached c.before.before.before.before.before.before) at.invariant.3.ready (verdict c.before.before.before.before.before.before) a.draws.now at.used at.invariant.3.within c.list_after-kept.result (is-list c.before.before) _ c.in-Refused.is in
-    c.refused.ensures ∙ stopped c.before.before.before.before.before.before _ e
+    let e = act-refused (reached c.before.before.before.before.before.before.before) at.invariant.3.ready (verdict c.before.before.before.before.before.before.before) a.draws.now at.used at.invariant.3.within c.list_after-kept.result (is-list c.before.before.before) _ c.in-Refused.is in
+    c.refused.ensures ∙ stopped c.before.before.before.before.before.before.before _ e
 
 pub old_news-old-requires : goal.old_news-old-requires
 old_news-old-requires c = c.loop-i.invariant.3.ready.heaps.alive
@@ -252,18 +266,18 @@ overflow_sub-alive c = c.old_news-old.ensures.within
 pub returns-then-finds_full : goal.returns-then-finds_full
 unfolding view_node
 returns-then-finds_full c =
-    let a = (start c.before.before.before.before.before.before.before.before.before.before.before.before.before).args in
+    let a = (start c.before.before.before.before.before.before.before.before.before.before.before.before.before.before).args in
     let at = c.loop-i in
-    let e = act-full (reached c.before.before.before.before.before.before.before.before.before.before.before.before.before) at.invariant.3.ready (verdict c.before.before.before.before.before.before.before.before.before.before.before.before.before) a.draws.now at.used at.invariant.3.within c.list_after-kept.result (is-list c.before.before.before.before.before.before.before.before.before) c.in-Used.more c.in-Used.is (sym (is_full c.before.before.before) ∙ c.if-finds_full.true) in
-    let full : c.full_heap.result ≡ full_for (news c.before.before.before.before.before.before.before.before.before.before.before.before.before) = c.full_heap.ensures ∙ ap full_for (is-news c.before.before.before.before.before.before) in
+    let e = act-full (reached c.before.before.before.before.before.before.before.before.before.before.before.before.before.before) at.invariant.3.ready (verdict c.before.before.before.before.before.before.before.before.before.before.before.before.before.before) a.draws.now at.used at.invariant.3.within c.list_after-kept.result (is-list c.before.before.before.before.before.before.before.before.before.before) c.in-Used.more c.in-Used.is (sym (is_full c.before.before.before.before) ∙ c.if-finds_full.true) in
+    let full : c.full_heap.result ≡ full_for (news c.before.before.before.before.before.before.before.before.before.before.before.before.before.before) = c.full_heap.ensures ∙ ap full_for (is-news c.before.before.before.before.before.before) in
     c.refused-then-finds_full.ensures ∙ ap (λ (u : Refusal). refused_heard a.node u (handler.cause_at at.i a.lent.given)) full ∙ stopped c.before.before.before.before.before.before.before.before.before.before.before.before.before (full_for (news c.before.before.before.before.before.before.before.before.before.before.before.before.before)) e
 
 pub clear-alive-requires : goal.clear-alive-requires
-clear-alive-requires c = (told c.before).before.before.before.loop.inv.3.ready.heaps.alive
+clear-alive-requires c = (told c.before.before).before.before.before.loop.inv.3.ready.heaps.alive
 
 pub tell-alive-requires : goal.tell-alive-requires
 tell-alive-requires c =
-    let at = (told c.before.before.before).before.before.before.loop in
+    let at = (told c.before.before.before.before).before.before.before.loop in
     let on = (start (told c.before.before.before)).args.node.settings.collect in
     let fits = cleared_fits on (said c.before.before.before) at.alive at.inv.3.ready.heaps.alive in
     let long : at.alive.len - c.old_news-old.result ≡ c.if-old-gt0.alive.len =
@@ -271,36 +285,36 @@ tell-alive-requires c =
     (subst Packed (sym (clear-there c.before.before)) fits.0, subst (RoomFor kind.Alive (said c.before.before.before)) long (has_room c.before.before.before kind.Alive))
 
 pub row_after-departed-requires : goal.row_after-departed-requires
-row_after-departed-requires c = let r = (told c.before.before.before).before.before.before.loop.inv.3.ready in (r.departed, r.members)
+row_after-departed-requires c = let r = (told c.before.before.before.before).before.before.before.loop.inv.3.ready in (r.departed, r.members)
 
 pub tell-deceased-requires : goal.tell-deceased-requires
-tell-deceased-requires c = ((told c.before.before.before.before).before.before.before.loop.inv.3.ready.heaps.deceased, has_room c.before.before.before.before kind.Deceased)
+tell-deceased-requires c = ((told c.before.before.before.before.before).before.before.before.loop.inv.3.ready.heaps.deceased, has_room c.before.before.before.before kind.Deceased)
 
 pub note-report-requires : goal.note-report-requires
 note-report-requires c =
-    let v = told c.before.before.before.before in
+    let v = told c.before.before.before.before.before in
     let at = v.before.before.before.loop in
     (room v, omega (arith, at.inv.4, is-due v.before, (start v).pre.1.few), few-old c.before.before.before.before.before.before.before)
 
 pub overflow_add-i-in-loop-i : goal.overflow_add-i-in-loop-i
-overflow_add-i-in-loop-i c = let v = told c.before.before.before.before.before in omega (arith, is-due v.before, (start v).pre.1.few)
+overflow_add-i-in-loop-i c = let v = told c.before.before.before.before.before.before in omega (arith, is-due v.before.before, (start v).pre.1.few)
 
 pub loop-i-smaller : goal.loop-i-smaller
-loop-i-smaller c = omega (arith, is-due (told c.before.before.before.before.before).before)
+loop-i-smaller c = omega (arith, is-due (told.before c.before.before.before.before.before.before).before)
 
 pub loop-i-preserved : goal.loop-i-preserved
 unfolding view_node
 loop-i-preserved c =
-    let s = start c.before.before.before.before.before.before.before.before.before.before.before.before.before.before.before.before in
+    let s = start c.before.before.before.before.before.before.before.before.before.before.before.before.before.before.before.before.before in
     let a = s.args in
     let at = c.loop-i in
-    let w = news c.before.before.before.before.before.before.before.before.before.before.before.before.before.before.before.before in
-    let n : c.note-report.result ≡ noted at.report w (old c.before.before.before.before.before.before.before.before.before.before.before.before.before.before.before.before) = c.note-report.ensures ∙ (λ i. noted at.report (is-news c.before.before.before.before.before.before.before.before.before i) (is-old c.before.before.before.before.before.before.before.before i)) in
+    let w = news c.before.before.before.before.before.before.before.before.before.before.before.before.before.before.before.before.before in
+    let n : c.note-report.result ≡ noted at.report w (old c.before.before.before.before.before.before.before.before.before.before.before.before.before.before.before.before.before) = c.note-report.ensures ∙ (λ i. noted at.report (is-news c.before.before.before.before.before.before.before.before.before.before i) (is-old c.before.before.before.before.before.before.before.before.before i)) in
     let departed = c.if-goes_to.departed in
     let alive = c.if-goes_to.alive in
     let deceased = c.if-goes_to.deceased in
     let more = c.in-Used.more in
-    let acted = act_done (reached c.before.before.before.before.before.before.before.before.before.before.before.before.before.before.before.before) at.invariant.3.ready (verdict c.before.before.before.before.before.before.before.before.before.before.before.before.before.before.before.before) a.draws.now at.used at.invariant.3.within c.list_after-kept.result (is-list c.before.before.before.before.before.before.before.before.before.before.before.before) more c.in-Used.is departed alive deceased (is_row c.before.before) (is-alive c.before.before ∙ (λ i. told_to kind.Alive (is-news c.before.before.before.before.before.before.before.before.before i) (cleared_for (is-old c.before.before.before.before.before.before.before.before i) (is-news c.before.before.before.before.before.before.before.before.before i) at.alive))) (is-deceased c.before.before ∙ ap (λ (x : handler.News Addr). told_to kind.Deceased x at.deceased) (is-news c.before.before.before.before.before.before.before.before.before)) (sym (is_full c.before.before.before.before.before.before) ∙ c.if-finds_full.false) in
+    let acted = act_done (reached c.before.before.before.before.before.before.before.before.before.before.before.before.before.before.before.before.before) at.invariant.3.ready (verdict c.before.before.before.before.before.before.before.before.before.before.before.before.before.before.before.before) a.draws.now at.used at.invariant.3.within c.list_after-kept.result (is-list c.before.before.before.before.before.before.before.before.before.before.before.before) more c.in-Used.is departed alive deceased (is_row c.before.before) (is-alive c.before.before ∙ (λ i. told_to kind.Alive (is-news c.before.before.before.before.before.before.before.before.before i) (cleared_for (is-old c.before.before.before.before.before.before.before.before i) (is-news c.before.before.before.before.before.before.before.before.before i) at.alive))) (is-deceased c.before.before ∙ ap (λ (x : handler.News Addr). told_to kind.Deceased x at.deceased) (is-news c.before.before.before.before.before.before.before.before.before)) (sym (is_full c.before.before.before.before.before.before) ∙ c.if-finds_full.false) in
     let counts = noted_collected at.report w a.node.settings.collect (heap_view at.alive) in
     let keeps = turn-keeps (to_optional a.lent.sender) (records a.lent) at.i (view_node (reached c.before.before.before.before.before.before.before.before.before.before.before.before.before.before.before.before)) (drop at.used a.draws.now) at.invariant.3.ready.good s.pre.1.valid s.pre.2 in (
       omega (arith, is-due c.before.before.before.before.before.before.before.before.before.before.before.before.before.before.before.before.before.before),
@@ -317,4 +331,4 @@ returns c =
     let all = whole a.node a.lent a.draws.now in
     let n = current a.node at.members at.departed at.alive at.deceased in
     c.all_heard.ensures ∙ sofar_ends all a.draws.now a.node n (stops a.node a.lent a.draws.now) at.report at.used
-    (sofar_over (to_optional a.lent.sender) (records a.lent) all a.draws.now at.used at.i n at.report at.invariant.3 (omega (arith, many c.before.before.before.before.before.before.before.before.before.before, c.loop-i-test.false)))
+    (sofar_over (to_optional a.lent.sender) (records a.lent) all a.draws.now at.used at.i n at.report at.invariant.3 (omega (arith, many c.before.before.before.before.before.before.before.before.before.before.before, c.loop-i-test.false)))

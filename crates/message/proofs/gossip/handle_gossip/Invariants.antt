@@ -44,23 +44,9 @@ records l = records_of l.rows l.given
 abbrev pub whole : Node → Lent → List ℕ → Answer (M.Out Addr)
 whole n l draws = M.and_more (handler.gossip here (records l) (view_node n) draws) (sender_rule (to_optional l.sender))
 
-pub -- the node with the list and the news so far
-abbrev current : Node → Members → DepartedRow → Heap → Heap → Node
+-- the node with the list and the news so far
+abbrev pub current : Node → Members → DepartedRow → Heap → Heap → Node
 current n m r a d = with_disseminator (with_lists n m r) (record { alive = a; deceased = d })
-
-abbrev pub news : lts.After-verdict_at tie.the-claims reads.Pre reads.Post goal.the-invariant-loop-i goal.the-decreases-loop-i tie.handed_clauses → handler.News Addr
-news v = handler.news_of here (verdict v) (start v).args.node.own
-
-pub -- where a call starts, and the loop as a verdict is given
-abbrev start : lts.After-verdict_at tie.the-claims reads.Pre reads.Post goal.the-invariant-loop-i goal.the-decreases-loop-i tie.handed_clauses → lts.Start tie.the-claims reads.Pre reads.Post goal.the-invariant-loop-i goal.the-decreases-loop-i tie.handed_clauses decreases-loop
-start v = v.before.before.before.before.before.before.before.before.before.before
-
-pub -- the verdict, and what is ahead of it
-abbrev verdict : lts.After-verdict_at tie.the-claims reads.Pre reads.Post goal.the-invariant-loop-i goal.the-decreases-loop-i tie.handed_clauses → handler.Verdict Addr
-verdict v =
-    let a = (start v).args in
-    let at = v.loop-i in
-    verdict_at a.node.own (view_members at.members).table (deaths_of a.node.settings.remember at.departed at.deceased) (records a.lent) (to_optional a.lent.sender) at.i
 
 abbrev pub invariant-loop-i : goal.invariant-loop-i
 invariant-loop-i l =
