@@ -353,11 +353,11 @@ def answer(turner, index, block, old):
     return "\n".join(comment + [f"pub {new} : goal.{new}"] + unfolding + [f"{new} {var} ={body}"])
 
 
-def inline(turner, index, arg):
+def inline(turner, index, arg, unfolding=()):
     m = re.match(rf"^\(λ ({WORD})(?: κs)?\.\s+(.*)\)$", arg, re.S)
     new = turner.f.goals[index][1]
     body = labelled(turner, index, turner.body(" " + m[2], turner.f.at[index], m[1]))
-    return f"pub {new} : goal.{new}\n{new} {m[1]} ={body}"
+    return "\n".join([f"pub {new} : goal.{new}", *unfolding, f"{new} {m[1]} ={body}"])
 
 
 def align(turner, args, names):
@@ -466,7 +466,8 @@ def turn(path, function, crate):
             t.say(f"no goal for {' '.join(a.split())[:120]}")
             continue
         if a.startswith("(λ"):
-            answers.append((where[i], inline(t, where[i], a)))
+            # What the whole proof opened, its answers in place opened too.
+            answers.append((where[i], inline(t, where[i], a, [l for l in spec.split("\n") if l.startswith("unfolding")])))
         else:
             t.say(f"not read: {a[:100]}")
     answers.sort(key=lambda x: x[0])

@@ -13,7 +13,6 @@ use Rattle.model.specs.Rows.{pick}
 use Rattle.model.specs.Words as words
 use Rattle.model.specs.Calls.{first_of}
 use Rattle.address.specs.Here.{Addr, here}
-use Rattle.member.specs.declared.Member.{Member}
 use Rattle.member.specs.Views.{to_member}
 use Rattle.image.specs.Image.{Form, Entry, head, entry, member_of, Saved, marked, counted}
 use Rattle.image.specs.Forms.{form_in, image_of}

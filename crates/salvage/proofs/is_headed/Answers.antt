@@ -1,7 +1,6 @@
 -- `salvage::is_headed` meets its contract: long enough, and own in range.
 -- Assumes nothing.
 use native.Mathlib.Omega.{arith}
-use borrow.Author.Rules.{rules}
 use Rattle.image.specs.Versions.{version}
 use Rattle.salvage.proofs.Judging.{headed-short, headed-by}
 use Rattle.salvage.proofs.is_headed.Goals as goal

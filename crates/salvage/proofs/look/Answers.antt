@@ -2,7 +2,6 @@
 -- Assumes nothing.
 use native.Mathlib.Omega.{arith}
 use lib.ListN.{take}
-use borrow.Author.Rules.{rules}
 use Rattle.image.specs.Versions.{version}
 use Rattle.salvage.proofs.Judging.{look-cut, look-whole}
 use Rattle.salvage.proofs.look.Goals as goal

@@ -1,6 +1,5 @@
 -- `salvage::nothing` meets its contract.
 -- Assumes nothing.
-use borrow.Author.Rules.{rules}
 use Rattle.salvage.proofs.nothing.Goals as goal
 
 pub returns : goal.returns

@@ -1,7 +1,6 @@
 -- `salvage::refused` meets its contract.
 -- Assumes nothing.
 use lib.ListN.{replicate}
-use borrow.Author.Rules.{rules}
 use Rattle.salvage.specs.Views.{row_of_words}
 use Rattle.salvage.specs.declared.Ends.TheVariants as ends
 use Rattle.salvage.proofs.refused.Goals as goal

@@ -1,21 +1,10 @@
 -- `salvage::salvage` meets its contract: 14, 16, then 12, else the image of what is left.
 -- Assumes nothing.
-use mathlib.Core.Path.{◌≡◌, ap, sym, ◌∙◌}
-use mathlib.Core.Bool.{true}
+use mathlib.Core.Path.{ap, sym, ◌∙◌}
 use Prim.Native.Nat.{ℕ, min}
 use native.Mathlib.Omega.{arith}
-use borrow.Author.Rules.{rules}
-use borrow.Author.Tests.{not-true, not-false}
-use Rattle.address.specs.Here.{here}
-use Rattle.image.specs.Image.{marked}
-use Rattle.image.specs.Forms.{form_in}
-use Rattle.image.specs.Versions.{versions, version}
-use Rattle.salvage.specs.Salvage.{headed}
 use Rattle.salvage.proofs.Judging.{headed-long}
 use Rattle.salvage.proofs.Ending.{salvage_unmarked, salvage_headless, salvage-short, salvage-whole}
-use Rattle.salvage.proofs.salvage.Lts as lts
-use Rattle.salvage.proofs.salvage.Tie as tie
-use Rattle.salvage.proofs.salvage.Reads as reads
 use Rattle.salvage.proofs.salvage.Goals as goal
 
 pub returns-then-not-is_marked : goal.returns-then-not-is_marked

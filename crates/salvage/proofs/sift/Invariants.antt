@@ -1,10 +1,8 @@
 -- `salvage::sift` meets its contract: the first i places are sifted.
 -- Assumes nothing.
 use Prim.Native.Nat.{◌-◌}
-use native.Mathlib.Omega.{arith}
-use borrow.Author.Rules.{rules}
 use Rattle.image.specs.Versions.{version}
-use Rattle.salvage.proofs.Sifting.{Going, going_none, going_more, going_done}
+use Rattle.salvage.proofs.Sifting.{Going}
 use Rattle.salvage.proofs.sift.Given as goal
 
 abbrev pub invariant-loop-i : goal.invariant-loop-i

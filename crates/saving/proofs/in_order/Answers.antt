@@ -1,9 +1,8 @@
 -- `saving::in_order` meets its contract: the first i of the order stand in the row.
 -- Assumes nothing.
-use Prim.Native.Nat.{◌-◌}
 use native.Mathlib.Omega.{arith}
 use borrow.Author.Rules.{rules}
-use Rattle.saving.proofs.Ordering.{Going, going_none, going_more, going_done, count_is}
+use Rattle.saving.proofs.Ordering.{going_none, going_more, going_done, count_is}
 use Rattle.saving.proofs.in_order.Goals as goal
 
 pub loop-i-init : goal.loop-i-init

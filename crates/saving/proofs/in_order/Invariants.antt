@@ -1,9 +1,7 @@
 -- `saving::in_order` meets its contract: the first i of the order stand in the row.
 -- Assumes nothing.
 use Prim.Native.Nat.{◌-◌}
-use native.Mathlib.Omega.{arith}
-use borrow.Author.Rules.{rules}
-use Rattle.saving.proofs.Ordering.{Going, going_none, going_more, going_done, count_is}
+use Rattle.saving.proofs.Ordering.{Going}
 use Rattle.saving.proofs.in_order.Given as goal
 
 abbrev pub invariant-loop-i : goal.invariant-loop-i

@@ -1,6 +1,5 @@
 -- `saving::members_of` meets its contract.
 -- Assumes nothing.
-use borrow.Author.Rules.{rules}
 use Rattle.saving.proofs.members_of.Goals as goal
 
 pub returns : goal.returns

@@ -4,7 +4,6 @@ use mathlib.Core.Path.{ap, ◌∙◌}
 use Rattle.model.specs.declared.Reply.TheVariants.{Refused}
 use Rattle.node.specs.declared.Node.{Node}
 use Rattle.node.specs.Views.{plain_answer}
-use borrow.Author.Rules.{rules}
 use Rattle.saving.proofs.refused.Goals as goal
 
 pub returns : goal.returns

@@ -2,7 +2,6 @@
 -- Assumes nothing.
 use mathlib.Core.Path.{◌∙◌}
 use Rattle.saving.proofs.Restoring.{restore-ends}
-use borrow.Author.Rules.{rules}
 use Rattle.saving.proofs.restore.Goals as goal
 
 pub returns-in-Accepted : goal.returns-in-Accepted

@@ -1,19 +1,10 @@
 -- `saving::save` meets its contract: 2, then 12, else the image.
 -- Assumes nothing.
-use mathlib.Core.Path.{◌≡◌, sym, ◌∙◌}
-use mathlib.Core.Bool.{true}
+use mathlib.Core.Path.{sym, ◌∙◌}
 use native.Mathlib.Omega.{arith}
-use borrow.Author.Rules.{rules}
-use borrow.Author.Tests.{not-true, not-false}
-use Rattle.address.specs.Here.{here}
-use Rattle.model.specs.Sound.{sound}
-use Rattle.node.specs.Views.{stored_view}
-use Rattle.node.specs.Rows.{Ready, sound_ready}
+use Rattle.node.specs.Rows.{sound_ready}
 use Rattle.saving.proofs.Ordering.{count_is}
 use Rattle.saving.proofs.Keeping.{save_unsound, save-short, save-whole}
-use Rattle.saving.proofs.save.Lts as lts
-use Rattle.saving.proofs.save.Tie as tie
-use Rattle.saving.proofs.save.Reads as reads
 use Rattle.saving.proofs.save.Goals as goal
 
 pub returns-then-not-sound : goal.returns-then-not-sound

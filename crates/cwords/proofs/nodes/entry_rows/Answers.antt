@@ -1,10 +1,7 @@
 -- `cwords::nodes::entry_rows` meets its contract: a place a turn, each read back.
 -- Assumes nothing.
-use Prim.Native.Nat.{◌-◌}
 use borrow.Author.Rules.{rules}
-use Rattle.cwords.specs.Reading.{entry_of}
-use Rattle.cwords.specs.Writing.{entry_words}
-use Rattle.cwords.proofs.Filling.{Backed, backed_none, backed_next, filled_back}
+use Rattle.cwords.proofs.Filling.{backed_none, backed_next, filled_back}
 use Rattle.cwords.proofs.nodes.entry_rows.Goals as goal
 
 pub loop-i-init : goal.loop-i-init

@@ -1,10 +1,9 @@
 -- `cwords::nodes::entry_rows` meets its contract: a place a turn, each read back.
 -- Assumes nothing.
 use Prim.Native.Nat.{◌-◌}
-use borrow.Author.Rules.{rules}
 use Rattle.cwords.specs.Reading.{entry_of}
 use Rattle.cwords.specs.Writing.{entry_words}
-use Rattle.cwords.proofs.Filling.{Backed, backed_none, backed_next, filled_back}
+use Rattle.cwords.proofs.Filling.{Backed}
 use Rattle.cwords.proofs.nodes.entry_rows.Given as goal
 
 abbrev pub invariant-loop-i : goal.invariant-loop-i

@@ -2,7 +2,6 @@
 -- Assumes nothing.
 use native.Mathlib.Omega.{arith}
 use Rattle.cwords.specs.Writing.{head_words}
-use borrow.Author.Rules.{rules}
 use Rattle.cwords.proofs.nodes.head_words.Goals as goal
 
 pub returns : goal.returns

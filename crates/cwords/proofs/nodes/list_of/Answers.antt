@@ -1,7 +1,6 @@
 -- `cwords::nodes::list_of` meets its contract.
 -- Assumes nothing.
 use Rattle.cwords.specs.Reading.{members_of}
-use borrow.Author.Rules.{rules}
 use Rattle.cwords.proofs.nodes.list_of.Goals as goal
 
 pub returns : goal.returns

@@ -1,7 +1,6 @@
 -- `cwords::nodes::news_of` meets its contract.
 -- Assumes nothing.
 use Rattle.cwords.specs.Reading.{disseminator_of}
-use borrow.Author.Rules.{rules}
 use Rattle.cwords.proofs.nodes.news_of.Goals as goal
 
 pub returns : goal.returns

@@ -1,7 +1,6 @@
 -- `cwords::nodes::node_of` meets its contract.
 -- Assumes nothing.
 use Rattle.cwords.specs.Reading.{node_of, settings_of}
-use borrow.Author.Rules.{rules}
 use Rattle.cwords.proofs.nodes.node_of.Goals as goal
 
 pub returns : goal.returns

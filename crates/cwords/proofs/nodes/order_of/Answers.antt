@@ -1,9 +1,7 @@
 -- `cwords::nodes::order_of` meets its contract: a place a turn.
 -- Assumes nothing.
-use Prim.Native.Nat.{◌-◌}
 use borrow.Author.Rules.{rules}
-use Rattle.cwords.specs.Reading.{address_in}
-use Rattle.cwords.proofs.Filling.{Filled, filled_none, filled_next, filled_whole}
+use Rattle.cwords.proofs.Filling.{filled_none, filled_next, filled_whole}
 use Rattle.cwords.proofs.nodes.order_of.Goals as goal
 
 pub loop-i-init : goal.loop-i-init

@@ -1,7 +1,6 @@
 -- `cwords::nodes::put_node` meets its contract: row by row.
 -- Assumes nothing.
 use Rattle.cwords.specs.Back.{puts}
-use borrow.Author.Rules.{rules}
 use Rattle.cwords.proofs.nodes.put_node.Goals as goal
 
 pub returns : goal.returns

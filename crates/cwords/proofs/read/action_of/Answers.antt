@@ -2,7 +2,6 @@
 -- Assumes nothing.
 use borrow.Author.Tests.{ne_eqb}
 use Rattle.cwords.specs.Reading.{action_of, action_as}
-use borrow.Author.Rules.{rules}
 use Rattle.cwords.proofs.read.action_of.Goals as goal
 
 pub returns-then-kind-eq1 : goal.returns-then-kind-eq1

@@ -2,7 +2,6 @@
 -- Assumes nothing.
 use borrow.Author.Tests.{lt-ltb, le-ltb}
 use Rattle.cwords.specs.Reading.{address_of}
-use borrow.Author.Rules.{rules}
 use Rattle.cwords.proofs.read.address_of.Goals as goal
 
 pub returns-then-first-lt-END_24 : goal.returns-then-first-lt-END_24

@@ -2,7 +2,6 @@
 -- Assumes nothing.
 use native.Mathlib.Omega.{arith}
 use borrow.Author.Tests.{lt-ltb, le-ltb}
-use borrow.Author.Rules.{rules}
 use Rattle.cwords.proofs.read.capped.Goals as goal
 
 pub returns-then-w-lt-END_32 : goal.returns-then-w-lt-END_32

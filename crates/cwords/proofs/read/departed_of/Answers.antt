@@ -1,7 +1,6 @@
 -- `cwords::read::departed_of` meets its contract.
 -- Assumes nothing.
 use Rattle.cwords.specs.Reading.{departed_of}
-use borrow.Author.Rules.{rules}
 use Rattle.cwords.proofs.read.departed_of.Goals as goal
 
 pub returns : goal.returns

@@ -1,7 +1,6 @@
 -- `cwords::read::entry_of` meets its contract.
 -- Assumes nothing.
 use Rattle.cwords.specs.Reading.{entry_of}
-use borrow.Author.Rules.{rules}
 use Rattle.cwords.proofs.read.entry_of.Goals as goal
 
 pub returns : goal.returns

@@ -6,7 +6,6 @@ use mathlib.Core.Bool.{◌&&◌}
 use Rattle.address.specs.Here.{here}
 use Rattle.cwords.specs.Reading.{event_of, zeroed}
 use Rattle.cwords.proofs.Decoding.{past-four}
-use borrow.Author.Rules.{rules}
 use Rattle.cwords.proofs.read.event_of.Lts as lts
 use Rattle.cwords.proofs.read.event_of.Tie as tie
 use Rattle.cwords.proofs.read.event_of.Reads as reads

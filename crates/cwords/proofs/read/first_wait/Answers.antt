@@ -1,7 +1,6 @@
 -- `cwords::read::first_wait` meets its contract.
 -- Assumes nothing.
 use mathlib.Core.Path.{sym, ◌∙◌}
-use borrow.Author.Rules.{rules}
 use Rattle.cwords.proofs.read.first_wait.Goals as goal
 
 pub returns-then-both : goal.returns-then-both

@@ -1,7 +1,6 @@
 -- `cwords::read::gossip_of` meets its contract.
 -- Assumes nothing.
 use Rattle.cwords.specs.Reading.{gossip_of}
-use borrow.Author.Rules.{rules}
 use Rattle.cwords.proofs.read.gossip_of.Goals as goal
 
 pub returns : goal.returns

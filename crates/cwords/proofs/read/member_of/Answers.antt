@@ -2,7 +2,6 @@
 -- Assumes nothing.
 use borrow.Author.Tests.{ne_eqb}
 use Rattle.cwords.specs.Reading.{member_of, member_as}
-use borrow.Author.Rules.{rules}
 use Rattle.cwords.proofs.read.member_of.Goals as goal
 
 pub returns-then-state-eq0 : goal.returns-then-state-eq0

@@ -2,7 +2,6 @@
 -- Assumes nothing.
 use borrow.Author.Tests.{eq-eqb, ne_eqb}
 use Rattle.cwords.specs.Reading.{optional_of}
-use borrow.Author.Rules.{rules}
 use Rattle.cwords.proofs.read.optional_of.Goals as goal
 
 pub returns-then-first-eq-ABSENT : goal.returns-then-first-eq-ABSENT

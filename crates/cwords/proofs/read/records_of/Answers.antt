@@ -1,12 +1,9 @@
 -- `cwords::read::records_of` meets its contract: a place a turn, to the end of the shorter row.
 -- Assumes nothing.
-use mathlib.Core.Path.{◌≡◌, refl}
-use Prim.Native.Nat.{◌-◌, ◌≤◌}
-use lib.ListN.{length, replicate}
+use mathlib.Core.Path.{refl}
 use borrow.Author.Rules.{rules}
 use Rattle.types.specs.Views.{no_gossip}
-use Rattle.cwords.specs.Reading.{gossip_of}
-use Rattle.cwords.proofs.Filling.{Filled, filled_none, filled_next, padded}
+use Rattle.cwords.proofs.Filling.{filled_none, filled_next, padded}
 use Rattle.cwords.proofs.read.records_of.Goals as goal
 
 pub loop-i-init : goal.loop-i-init

@@ -1,12 +1,11 @@
 -- `cwords::read::records_of` meets its contract: a place a turn, to the end of the shorter row.
 -- Assumes nothing.
-use mathlib.Core.Path.{◌≡◌, refl}
+use mathlib.Core.Path.{◌≡◌}
 use Prim.Native.Nat.{◌-◌, ◌≤◌}
 use lib.ListN.{length, replicate}
-use borrow.Author.Rules.{rules}
 use Rattle.types.specs.Views.{no_gossip}
 use Rattle.cwords.specs.Reading.{gossip_of}
-use Rattle.cwords.proofs.Filling.{Filled, filled_none, filled_next, padded}
+use Rattle.cwords.proofs.Filling.{Filled}
 use Rattle.cwords.proofs.read.records_of.Given as goal
 
 abbrev pub invariant-loop-i : goal.invariant-loop-i

@@ -1,7 +1,6 @@
 -- `cwords::read::settings_of` meets its contract.
 -- Assumes nothing.
 use Rattle.cwords.specs.Reading.{settings_of}
-use borrow.Author.Rules.{rules}
 use Rattle.cwords.proofs.read.settings_of.Goals as goal
 
 pub returns : goal.returns

@@ -3,7 +3,6 @@
 use mathlib.Core.Path.{sym, ◌∙◌}
 use Rattle.cwords.specs.Reading.{state_of}
 use Rattle.cwords.proofs.Decoding.{past-four}
-use borrow.Author.Rules.{rules}
 use Rattle.cwords.proofs.read.state_of.Goals as goal
 
 pub returns-then-kind-eq1 : goal.returns-then-kind-eq1

@@ -6,7 +6,6 @@ use borrow.Author.Tests.{lt-ltb, le-ltb}
 use Prim.Native.Nat.{◌%◌}
 use lib.ListN.{get_or}
 use Rattle.cwords.specs.Reading.{wait_of}
-use borrow.Author.Rules.{rules}
 use Rattle.cwords.proofs.read.wait_of.Goals as goal
 
 pub returns-then-since-lt-END_32 : goal.returns-then-since-lt-END_32

@@ -1,6 +1,5 @@
 -- `cwords::read::zeroed` meets its contract.
 -- Assumes nothing.
-use borrow.Author.Rules.{rules}
 use Rattle.cwords.proofs.read.zeroed.Goals as goal
 
 pub returns : goal.returns

@@ -1,7 +1,6 @@
 -- `cwords::write::action_words` meets its contract.
 -- Assumes nothing.
 use Rattle.cwords.proofs.Encoding.{ping_ends, request_ends, ack_ends}
-use borrow.Author.Rules.{rules}
 use Rattle.cwords.proofs.write.action_words.Goals as goal
 
 pub returns-in-Ping : goal.returns-in-Ping

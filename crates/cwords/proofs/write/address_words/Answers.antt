@@ -1,7 +1,6 @@
 -- `cwords::write::address_words` meets its contract.
 -- Assumes nothing.
 use Rattle.cwords.proofs.Encoding.{address_ends}
-use borrow.Author.Rules.{rules}
 use Rattle.cwords.proofs.write.address_words.Goals as goal
 
 pub returns : goal.returns

@@ -1,6 +1,5 @@
 -- `cwords::write::code_of` meets its contract.
 -- Assumes nothing.
-use borrow.Author.Rules.{rules}
 use Rattle.cwords.proofs.write.code_of.Goals as goal
 
 pub returns-in-Done : goal.returns-in-Done

@@ -1,7 +1,6 @@
 -- `cwords::write::departed_words` meets its contract.
 -- Assumes nothing.
 use Rattle.cwords.proofs.Encoding.{departed_ends}
-use borrow.Author.Rules.{rules}
 use Rattle.cwords.proofs.write.departed_words.Goals as goal
 
 pub returns : goal.returns

@@ -1,7 +1,6 @@
 -- `cwords::write::entry_words` meets its contract.
 -- Assumes nothing.
 use Rattle.cwords.proofs.Encoding.{entry-ends}
-use borrow.Author.Rules.{rules}
 use Rattle.cwords.proofs.write.entry_words.Goals as goal
 
 pub returns : goal.returns

@@ -2,7 +2,6 @@
 -- Assumes nothing.
 use native.Mathlib.Omega.{arith}
 use Rattle.cwords.specs.Writing.{first_word}
-use borrow.Author.Rules.{rules}
 use Rattle.cwords.proofs.write.first_word.Goals as goal
 
 pub returns : goal.returns

@@ -1,7 +1,6 @@
 -- `cwords::write::gossip_words` meets its contract.
 -- Assumes nothing.
 use Rattle.cwords.proofs.Encoding.{gossip-ends}
-use borrow.Author.Rules.{rules}
 use Rattle.cwords.proofs.write.gossip_words.Goals as goal
 
 pub returns : goal.returns

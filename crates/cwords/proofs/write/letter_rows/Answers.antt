@@ -1,9 +1,7 @@
 -- `cwords::write::letter_rows` meets its contract: a place a turn.
 -- Assumes nothing.
-use Prim.Native.Nat.{◌-◌}
 use borrow.Author.Rules.{rules}
-use Rattle.cwords.specs.Writing.{letter_words}
-use Rattle.cwords.proofs.Filling.{Filled, filled_none, filled_next, filled_whole}
+use Rattle.cwords.proofs.Filling.{filled_none, filled_next, filled_whole}
 use Rattle.cwords.proofs.write.letter_rows.Goals as goal
 
 pub loop-i-init : goal.loop-i-init

@@ -1,7 +1,6 @@
 -- `cwords::write::letter_words` meets its contract.
 -- Assumes nothing.
 use Rattle.cwords.proofs.Encoding.{letter-ends}
-use borrow.Author.Rules.{rules}
 use Rattle.cwords.proofs.write.letter_words.Goals as goal
 
 pub returns : goal.returns

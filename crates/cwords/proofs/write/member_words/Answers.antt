@@ -1,7 +1,6 @@
 -- `cwords::write::member_words` meets its contract.
 -- Assumes nothing.
 use Rattle.cwords.proofs.Encoding.{member-ends}
-use borrow.Author.Rules.{rules}
 use Rattle.cwords.proofs.write.member_words.Goals as goal
 
 pub returns : goal.returns

@@ -4,7 +4,6 @@ use mathlib.Core.Path.{refl}
 use Prim.{tt}
 use Rattle.cwords.specs.Writing.{optional_words}
 use Rattle.cwords.proofs.Encoding.{laid-first, optional_ends}
-use borrow.Author.Rules.{rules}
 use Rattle.cwords.proofs.write.optional_words.Goals as goal
 
 pub returns-in-Absent : goal.returns-in-Absent

@@ -1,7 +1,6 @@
 -- `cwords::write::place_word` meets its contract.
 -- Assumes nothing.
 use native.Mathlib.Omega.{arith}
-use borrow.Author.Rules.{rules}
 use Rattle.cwords.proofs.write.place_word.Goals as goal
 
 pub returns-in-Record : goal.returns-in-Record

@@ -1,9 +1,7 @@
 -- `cwords::write::put_64` meets its contract: a place a turn.
 -- Assumes nothing.
-use Prim.Native.Nat.{◌-◌}
 use borrow.Author.Rules.{rules}
-use Rattle.cwords.specs.Writing.{gossip_words}
-use Rattle.cwords.proofs.Filling.{Filled, filled_none, filled_next, filled_all}
+use Rattle.cwords.proofs.Filling.{filled_none, filled_next, filled_all}
 use Rattle.cwords.proofs.write.put_64.Goals as goal
 
 pub loop-i-init : goal.loop-i-init

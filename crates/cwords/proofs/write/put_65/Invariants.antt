@@ -1,9 +1,8 @@
 -- `cwords::write::put_65` meets its contract: a place a turn.
 -- Assumes nothing.
 use Prim.Native.Nat.{◌-◌}
-use borrow.Author.Rules.{rules}
 use Rattle.cwords.specs.Writing.{gossip_words}
-use Rattle.cwords.proofs.Filling.{Filled, filled_none, filled_next, filled_all}
+use Rattle.cwords.proofs.Filling.{Filled}
 use Rattle.cwords.proofs.write.put_65.Given as goal
 
 abbrev pub invariant-loop-i : goal.invariant-loop-i

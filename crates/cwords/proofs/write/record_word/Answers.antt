@@ -2,7 +2,6 @@
 -- Assumes nothing.
 use native.Mathlib.Omega.{arith}
 use borrow.Author.Tests.{lt-ltb, le-ltb}
-use borrow.Author.Rules.{rules}
 use Rattle.cwords.proofs.write.record_word.Goals as goal
 
 pub returns-then-i-lt64 : goal.returns-then-i-lt64

@@ -1,6 +1,5 @@
 -- `cwords::write::target_words` meets its contract.
 -- Assumes nothing.
-use borrow.Author.Rules.{rules}
 use Rattle.cwords.proofs.Encoding.{laid-second}
 use Rattle.cwords.proofs.write.target_words.Goals as goal
 

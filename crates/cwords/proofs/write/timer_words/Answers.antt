@@ -1,7 +1,6 @@
 -- `cwords::write::timer_words` meets its contract.
 -- Assumes nothing.
 use Rattle.cwords.proofs.Encoding.{timer_ends}
-use borrow.Author.Rules.{rules}
 use Rattle.cwords.proofs.write.timer_words.Goals as goal
 
 pub returns : goal.returns

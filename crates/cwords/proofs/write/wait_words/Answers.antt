@@ -3,7 +3,6 @@
 use mathlib.Core.Path.{refl}
 use Prim.{tt}
 use Rattle.cwords.proofs.Encoding.{wait-ends}
-use borrow.Author.Rules.{rules}
 use Rattle.cwords.proofs.write.wait_words.Goals as goal
 
 pub returns-in-SendingPing : goal.returns-in-SendingPing

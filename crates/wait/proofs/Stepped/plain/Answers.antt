@@ -2,7 +2,6 @@
 -- Assumes nothing.
 use mathlib.Core.List.{[], ◌∷◌}
 use lib.ListN.{replicate}
-use borrow.Author.Rules.{rules}
 use Rattle.types.specs.Views.{no_gossip}
 use Rattle.wait.proofs.Stepped.plain.Goals as goal
 

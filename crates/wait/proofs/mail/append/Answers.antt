@@ -2,16 +2,13 @@
 -- Assumes nothing.
 use mathlib.Core.Path.{◌≡◌, ap, ◌∙◌}
 use mathlib.Core.List.{◌++◌}
-use Prim.Native.Nat.{ℕ, ◌+◌, ◌-◌, ◌≤◌}
+use Prim.Native.Nat.{ℕ, ◌+◌}
 use native.Mathlib.Omega.{arith}
 use lib.ListN.{length, take, get_or, set}
 use borrow.Author.Rules.{rules}
 use Rattle.model.specs.Rows.{pad_to}
 use Rattle.types.specs.Views.{no_gossip}
 use Rattle.wait.specs.Posting.{append-start, append-next}
-use Rattle.wait.proofs.mail.append.Lts as lts
-use Rattle.wait.proofs.mail.append.Tie as tie
-use Rattle.wait.proofs.mail.append.Reads as reads
 use Rattle.wait.proofs.mail.append.Goals as goal
 
 pub loop-i-init : goal.loop-i-init

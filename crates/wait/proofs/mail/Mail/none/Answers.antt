@@ -1,7 +1,6 @@
 -- `wait::mail::Mail::none` meets its contract.
 -- Assumes nothing.
 use lib.ListN.{replicate}
-use borrow.Author.Rules.{rules}
 use Rattle.types.specs.Views.{no_gossip}
 use Rattle.wait.specs.Views.{mail_of}
 use Rattle.wait.proofs.mail.Mail.none.Goals as goal

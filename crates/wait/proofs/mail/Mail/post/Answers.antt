@@ -3,7 +3,6 @@
 use Prim.Native.Nat.{◌+◌}
 use native.Mathlib.Omega.{arith}
 use lib.ListN.{set}
-use borrow.Author.Rules.{rules}
 use Rattle.wait.specs.Views.{posted}
 use Rattle.wait.proofs.mail.Mail.post.Goals as goal
 
