@@ -36,6 +36,7 @@ module _ (a : Addr) where
   each_append (m ∷ ms) ns p q = (p.0, each_append ms ns p.1 q)
 
   each_at : (ms : List (Moment Addr)) (j : ℕ) (m : Moment Addr) → Each ms → At ms j m → Within m
+  each_at [] j m p e = elim e [ ]
   each_at (x ∷ ms) zero m p e = subst Within e p.0
   each_at (x ∷ ms) (suc j) m p e = each_at ms j m p.1 e
 

@@ -3,7 +3,7 @@
 -- Assumes nothing.
 use Rattle.std.specs.Prelude.{◌≡◌, refl, ◌⊎◌, ◌↔◌, Bool, true, false, not, ◌&&◌, ◌||◌, List, [], ◌∷◌, ◌++◌, map, ℕ, ◌^◌, ◌≤◌, ◌<◌, eqb, ltb, length}
 use Rattle.std.proofs.Common.{ap, sym, ◌∙◌, inl, inr, arith, lt-ltb, le-ltb, ltb-true, ltb-false, eq-eqb}
-use Rattle.std.proofs.Math.Bool.{and_assoc, and_true, or_true}
+use Rattle.std.proofs.Math.Bool.{and_assoc, and-true, or-true}
 use Rattle.std.proofs.Math.Option.{none, some}
 use Rattle.std.proofs.lemmas.List.{length-map}
 use Rattle.std.proofs.lemmas.Bool.{eqb-false, not-true, not-false}
@@ -87,7 +87,7 @@ range_append [] m = refl
 range_append (a ∷ l) m = ap (λ (u : Bool). here.valid a && u) (range_append l m) ∙ sym (and_assoc (here.valid a) (all_in_range l) (all_in_range m))
 
 two : (a b : Addr) → (here.valid a && here.valid b) ≡ all_in_range (a ∷ b ∷ [])
-two a b = ap (λ (u : Bool). here.valid a && u) (sym (and_true (here.valid b)))
+two a b = ap (λ (u : Bool). here.valid a && u) (sym (and-true (here.valid b)))
 
 action_is : (x : W.Action Addr) → valid_action here x ≡ all_in_range (of_action x)
 unfolding valid_action
@@ -116,10 +116,10 @@ message_is x gs = (λ i. action_is x i && records_are gs i) ∙ sym (range_appen
 state_is : (st : W.WaitState Addr) → valid_state here st ≡ all_in_range (of_state st)
 unfolding valid_state
 state_is W.SendingPing = refl
-state_is (W.WaitingForPingAck a n) = sym (and_true (here.valid a))
-state_is (W.SendingPingReq a n) = sym (and_true (here.valid a))
-state_is (W.WaitingForPingReqAck a n) = sym (and_true (here.valid a))
-state_is (W.Declaring a n) = sym (and_true (here.valid a))
+state_is (W.WaitingForPingAck a n) = sym (and-true (here.valid a))
+state_is (W.SendingPingReq a n) = sym (and-true (here.valid a))
+state_is (W.WaitingForPingReqAck a n) = sym (and-true (here.valid a))
+state_is (W.Declaring a n) = sym (and-true (here.valid a))
 
 -- ---- a test among others
 unlike : {x y : Refusal} → eqb (number_of x) (number_of y) ≡ false → x ≡ y → ⊥
@@ -164,7 +164,7 @@ short_is x g y e = (only (ltb x g) (ltb y e) (ltb-true x g) (ltb-true y e), if)
 
     if : (x < g) ⊎ (y < e) → (ltb x g || ltb y e) ≡ true
     if (inl h) = rw (lt-ltb x g h) refl
-    if (inr h) = rw (lt-ltb y e h) (or_true (ltb x g))
+    if (inr h) = rw (lt-ltb y e h) (or-true (ltb x g))
 
 enough_is : (x g y e : ℕ) → ((ltb x g || ltb y e) ≡ false) ↔ ((g ≤ x) × (e ≤ y))
 enough_is x g y e = (only (ltb x g) (ltb y e) (ltb-false x g) (ltb-false y e), (λ h. rw (le-ltb x g h.0) (le-ltb y e h.1)))

@@ -72,6 +72,7 @@ module _ (a : Addr) where
   about_is k _ (deceased from) = itself a k
 
   reported-at : (k : ℕ) (gs : List (W.Gossip Addr)) (i : ℕ) (g : W.Gossip Addr) → At gs i g → Says a k g.event → k ≤ reported here a gs
+  reported-at k [] i g p s = elim p [ ]
   reported-at k (x ∷ gs) zero g p s = let e : about here a x.event ≡ k = ap (λ (y : W.Gossip Addr). about here a y.event) p ∙ about_is k g.event s in omega (arith, e)
   reported-at k (x ∷ gs) (suc i) g p s = let h = reported-at k gs i g p s in omega (arith, h)
 
@@ -115,6 +116,7 @@ module _ (a : Addr) where
   module _ (own : Addr) (other : here.same own a ≡ false) (k n : ℕ) where
     held : (ms : List (Moment Addr)) (t : Tally) (j : ℕ) (m : Moment Addr) → Even t → Along here a own ms t → k ≤ t.top → At ms j m
         → ((l : ℕ) (x : Moment Addr) → l < j → At ms l x → Entered x → ⊥) → TakenOutBy n m → k ≤ n
+    held [] t j m h f low p none_came out = elim p [ ]
     held (x ∷ ms) t zero m h f low p none_came out =
         let g : Fine here a own t m = subst (Fine here a own t) p f.0 in
         let top : t.top ≤ n = g.bound out.from n out.notice other (g.before ∙ out.left.was) (goes-out here a _ _ _ out.left.was out.left.gone g.leaves) in
@@ -124,6 +126,7 @@ module _ (a : Addr) where
         held ms (step here a x t) j m (even_step x t h) f.1 (omega (arith, low, up)) p (λ l y b q. none_came (suc l) y (omega (arith, b)) q) out
 
     found : (ms : List (Moment Addr)) (t : Tally) (i j : ℕ) (s m : Moment Addr) → Even t → Along here a own ms t → i < j → At ms i s → Reports k s → At ms j m → NoEntry ms i j → TakenOutBy n m → k ≤ n
+    found [] t i j s m h f b p r q none_came out = elim p [ ]
     found (x ∷ ms) t zero zero s m h f b p r q none_came out = absurd (omega (arith, b))
     found (x ∷ ms) t zero (suc j) s m h f b p r q none_came out =
         let said : k ≤ reported here a s.said = reported-at k s.said r.place r.event r.there r.says in

@@ -72,6 +72,7 @@ pub record RowsFit (s : M.Stored Addr) : Type 0 where
 
 -- ---- a test of every element, place by place
 every-at : {B : Type 0} (f : B → Bool) (l : List B) → every f l ≡ true → (i : ℕ) (x : B) → At l i x → f x ≡ true
+every-at f [] e i x p = elim p [ ]
 every-at f (y ∷ l) e zero x p = ap f (sym p) ∙ (and_split (f y) (every f l) e).0
 every-at f (y ∷ l) e (suc i) x p = every-at f l (and_split (f y) (every f l) e).1 i x p
 

@@ -115,5 +115,6 @@ module _ {B R : Type 0} (read : B → R) (named : Refusal → R) (refuse : Refus
           ]) refl e
 
       given : (us : List (Bool × Refusal)) → FirstFails x us → read (first_of us refuse go) ≡ named x
+      given [] f = elim f [ ]
       given (t ∷ us) (fails p q) = rw p (says t.1 ∙ ap named q)
       given (t ∷ us) (passes p f) = rw p (given us f)

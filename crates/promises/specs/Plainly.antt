@@ -13,7 +13,7 @@ use Rattle.model.specs.declared.Fate.TheVariants.{Leaves, Stays, Absent}
 use Rattle.model.specs.Rows.{is_empty}
 use Rattle.model.specs.Bounds.{list_places, heap_places}
 use Rattle.model.specs.Answers.{number_of}
-use Rattle.model.specs.Words.{Address, is_alive, Timer, WaitState, SendingPing, SendingPingReq, Declaring}
+use Rattle.model.specs.Words.{Address, is_alive, Timer, WaitState, SendingPing, WaitingForPingAck, SendingPingReq, WaitingForPingReqAck, Declaring}
 use Rattle.model.specs.Node.{Node, state_of, numbered}
 use Rattle.model.specs.Detector.{fate_of}
 use Rattle.laws_rules.specs.Judged.{Fated, fated_leaves, fated_alive, fated_greater, fated_absent, fated}
@@ -35,6 +35,7 @@ module _ {A : Type 0} (s : Node A) (ds : List ℕ) where
       only_if : FirstFails ListFull (add_stops s ds) → list_places ≤ length s.members.table
       only_if (fails p q) = leb-true _ _ p
       only_if (passes p (fails p' q)) = other q (omega arith)
+      only_if (passes p (passes p' x)) = elim x [ ]
 
   pub add-short : FirstFails DrawsShort (add_stops s ds) ↔ ((length s.members.table < list_places) × (ds ≡ []))
   add-short = (only_if, (λ h. passes (lt-leb _ _ h.0) (fails (ap is_empty h.1) refl)))
@@ -42,6 +43,7 @@ module _ {A : Type 0} (s : Node A) (ds : List ℕ) where
       only_if : FirstFails DrawsShort (add_stops s ds) → (length s.members.table < list_places) × (ds ≡ [])
       only_if (fails p q) = other q (omega arith)
       only_if (passes p (fails p' q)) = (leb-false _ _ p, empty_is ds p')
+      only_if (passes p (passes p' x)) = elim x [ ]
 
 none_fails : {C : Type 0} {x : Refusal} → FirstFails x [] → C
 none_fails {C} f = first-among (λ r. C) f tt
@@ -97,6 +99,7 @@ module _ {A : Type 0} (address : Address A) (t : Timer A) (s : Node A) where
     where
       only_if : FirstFails DeceasedFull (end_stops Leaves s) → Removes address t s × (heap_places ≤ length s.disseminator.deceased)
       only_if (fails p q) = (h.0 refl, leb-true _ _ p)
+      only_if (passes p x) = elim x [ ]
   full_if Stays h = (none_fails, (λ p. apart (h.1 p.0) (omega arith)))
   full_if Absent h = (none_fails, (λ p. apart (h.1 p.0) (omega arith)))
 
@@ -111,27 +114,42 @@ module _ {A : Type 0} (address : Address A) (s : Node A) (ds : List ℕ) where
     where
       only_if : (st : WaitState A) → FirstFails TimersFull (step_stops address st s ds) → StepTimersFull st s
       only_if SendingPing (fails p q) = other q (omega arith)
+      only_if SendingPing (passes p x) = elim x [ ]
+      only_if (WaitingForPingAck a n) x = elim x [ ]
       only_if (SendingPingReq a n) (fails p q) = other q (omega arith)
       only_if (SendingPingReq a n) (passes p (fails p' q)) = other q (omega arith)
+      only_if (SendingPingReq a n) (passes p (passes p' x)) = elim x [ ]
+      only_if (WaitingForPingReqAck a n) x = elim x [ ]
       only_if (Declaring a n) (fails p q) = (a, n, refl, leb-true _ _ p)
+      only_if (Declaring a n) (passes p x) = elim x [ ]
 
   pub step-heap_full : (st : WaitState A) → FirstFails AliveFull (step_stops address st s ds) ↔ StepHeapFull address st s
   step-heap_full st = (only_if st, (λ h. rw h.2 (fails (le-leb _ _ h.3) refl)))
     where
       only_if : (st : WaitState A) → FirstFails AliveFull (step_stops address st s ds) → StepHeapFull address st s
       only_if SendingPing (fails p q) = other q (omega arith)
+      only_if SendingPing (passes p x) = elim x [ ]
+      only_if (WaitingForPingAck a n) x = elim x [ ]
       only_if (SendingPingReq a n) (fails p q) = (a, n, refl, leb-true _ _ p)
       only_if (SendingPingReq a n) (passes p (fails p' q)) = other q (omega arith)
+      only_if (SendingPingReq a n) (passes p (passes p' x)) = elim x [ ]
+      only_if (WaitingForPingReqAck a n) x = elim x [ ]
       only_if (Declaring a n) (fails p q) = other q (omega arith)
+      only_if (Declaring a n) (passes p x) = elim x [ ]
 
   pub step_draws-short : (st : WaitState A) → FirstFails DrawsShort (step_stops address st s ds) ↔ StepDrawsShort address st s ds
   step_draws-short st = (only_if st, if)
     where
       only_if : (st : WaitState A) → FirstFails DrawsShort (step_stops address st s ds) → StepDrawsShort address st s ds
       only_if SendingPing (fails p q) = inl (refl, ltb-true _ _ p)
+      only_if SendingPing (passes p x) = elim x [ ]
+      only_if (WaitingForPingAck a n) x = elim x [ ]
       only_if (SendingPingReq a n) (fails p q) = other q (omega arith)
       only_if (SendingPingReq a n) (passes p (fails p' q)) = inr (a, n, refl, leb-false _ _ p, ltb-true _ _ p')
+      only_if (SendingPingReq a n) (passes p (passes p' x)) = elim x [ ]
+      only_if (WaitingForPingReqAck a n) x = elim x [ ]
       only_if (Declaring a n) (fails p q) = other q (omega arith)
+      only_if (Declaring a n) (passes p x) = elim x [ ]
 
       if : StepDrawsShort address st s ds → FirstFails DrawsShort (step_stops address st s ds)
       if (inl h) = rw h.0 (fails (lt-ltb _ _ h.1) refl)

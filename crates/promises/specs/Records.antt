@@ -149,11 +149,11 @@ module _ {A : Type 0} (address : Address A) (x : Refusal) where
       )
   handle_exactly (PingReq from suspect) gs s ds = (
     (λ e. at-some_record gs s ds ((then_done _ x).0 e)),
-    (λ h. elim h [ at_record k h ↦ (then_done _ x).1 (stopped gs s ds k h) ]),
+    (λ h. elim h [ at_record k h ↦ (then_done _ x).1 (stopped gs s ds k h) | at_sender x3 ↦ elim x3 [ ] ]),
   )
   handle_exactly (Ack from to) gs s ds = (
     (λ e. at-some_record gs s ds ((then_done _ x).0 e)),
-    (λ h. elim h [ at_record k h ↦ (then_done _ x).1 (stopped gs s ds k h) ]),
+    (λ h. elim h [ at_record k h ↦ (then_done _ x).1 (stopped gs s ds k h) | at_sender x3 ↦ elim x3 [ ] ]),
   )
 
   -- as many records as the rules get through: those before the one that stops, or all

@@ -3,7 +3,7 @@
 use Rattle.std.specs.Prelude.{◌≡◌, refl, Bool, ◌&&◌, List, ◌∷◌, ℕ, ◌+◌, ◌*◌, ◌≤◌, ◌<◌, length, get_or, take, drop}
 use Rattle.std.proofs.Math.Path.{ap}
 use Rattle.std.proofs.Common.{sym, ◌∙◌, arith, drop-drop}
-use Rattle.std.proofs.Math.Bool.{true, false, not, and_false}
+use Rattle.std.proofs.Math.Bool.{true, false, not, and-false}
 use Rattle.std.proofs.Math.Dec.{leb}
 use borrow.Author.Tests.{le-leb, lt-leb, eq-eqb, ne_eqb}
 use Rattle.model.specs.declared.Refusal.TheVariants.{WrongLength, OutOfRule}
@@ -55,7 +55,7 @@ module _ (bytes : List ℕ) (is_marked : marked (form_in versions bytes) bytes �
     pub crowded_15 : (AsItSays f bytes → ⊥) → reply_number r.answer.reply ≡ 15
     unfolding sized
     crowded_15 h =
-        let off : sized f bytes ≡ false = ap (λ (u : Bool). leb (head f).width (length bytes) && u) (ne_eqb (length bytes) (layout f (counted f bytes)).width h) ∙ and_false (leb (head f).width (length bytes)) in
+        let off : sized f bytes ≡ false = ap (λ (u : Bool). leb (head f).width (length bytes) && u) (ne_eqb (length bytes) (layout f (counted f bytes)).width h) ∙ and-false (leb (head f).width (length bytes)) in
         ((restore_exactly bytes settings tick r met).refuses WrongLength).1 (passes (ap not is_marked) (fails (ap not off) refl))
 
   -- salvage goes on with 64 places, and tells the count as it stands
@@ -81,7 +81,7 @@ marked_2 rest = ap (λ (u : Bool). u && true) (le-leb 5 (length (opens 2 rest)) 
 
 not_2 : (rest : List ℕ) → marked v2 (opens 1 rest) ≡ false
 unfolding marked number_of number_in
-not_2 rest = and_false (leb 5 (length (opens 1 rest)))
+not_2 rest = and-false (leb 5 (length (opens 1 rest)))
 
 is_1 : (rest : List ℕ) → form_in versions (opens 1 rest) ≡ v1
 is_1 rest = ap (λ (u : Bool). pick u v2 v1) (not_2 rest)

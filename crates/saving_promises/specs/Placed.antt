@@ -32,15 +32,15 @@ abbrev pub record_at : Form Addr → List ℕ → ℕ → W.Member Addr
 record_at f bytes i = member_of ((entry f).get (drop ((head f).width + i * (entry f).width) bytes))
 
 -- and the address that the image names as its own, in the head
-abbrev pub field_own : Form Addr → List ℕ → Addr
-field_own f bytes = ((head f).get bytes).second.first
+abbrev pub own_at : Form Addr → List ℕ → Addr
+own_at f bytes = ((head f).get bytes).second.first
 
 -- ---- where these bytes stand: what k bytes from a place on say, the high byte first
 abbrev pub says : List ℕ → ℕ → ℕ → ℕ
 says bytes place k = number_of (take k (drop place bytes))
 
 -- version 1: own address from place 5 on; 17 bytes a place from 14 on: six of IPv4, two of port, one of state, eight of number
-pub own_1 : (bytes : List ℕ) → field_own v1 bytes ≡ record { family = 4; port = says bytes 11 2; high = 0; low = says bytes 5 6 }
+pub own_1 : (bytes : List ℕ) → own_at v1 bytes ≡ record { family = 4; port = says bytes 11 2; high = 0; low = says bytes 5 6 }
 own_1 bytes = ap (λ (l : List ℕ). record { family = 4; port = number_of (take 2 l); high = 0; low = says bytes 5 6 }) (drop-drop 6 5 bytes)
 
 pub record_1 : (bytes : List ℕ) (i : ℕ) → let p = 14 + i * 17 in record_at v1 bytes i
@@ -56,7 +56,7 @@ record_1 bytes i =
     }
 
 -- version 2: own address from place 5 on; 28 bytes a place from 25 on: one of family, sixteen of address, two of port, one of state, eight of number
-pub own_2 : (bytes : List ℕ) → field_own v2 bytes ≡ record { family = says bytes 5 1; port = says bytes 22 2; high = says bytes 6 8; low = says bytes 14 8 }
+pub own_2 : (bytes : List ℕ) → own_at v2 bytes ≡ record { family = says bytes 5 1; port = says bytes 22 2; high = says bytes 6 8; low = says bytes 14 8 }
 own_2 bytes =
     let h : drop 1 (drop 5 bytes) ≡ drop 6 bytes = drop-drop 1 5 bytes in
     let l : drop 8 (drop 1 (drop 5 bytes)) ≡ drop 14 bytes = ap (λ (x : List ℕ). drop 8 x) h ∙ drop-drop 8 6 bytes in
