@@ -31,8 +31,11 @@ class Module:
         self.items = []
         self.params = []
         inner = " ".join(header).strip()
-        for group in re.findall(r"\(([^:()]+) :", inner):
-            self.params += group.split()
+        depth = 0
+        for k, ch in enumerate(inner):
+            if ch == "(" and depth == 0:
+                self.params += inner[k + 1 :].split(" :")[0].split()
+            depth += {"(": 1, "{": 1, ")": -1, "}": -1}.get(ch, 0)
 
 
 def sign(line):
@@ -246,7 +249,7 @@ def bound(d):
     out.update(re.findall(rf"let ({NAME}) ", d.text))
     for line in d.lines:
         m = re.match(rf"\s*{re.escape(d.name)} (.*?) =", line)
-        if m and " : " not in m[1]:
+        if m and not m[1].startswith(":") and " : " not in m[1]:
             out.update(re.findall(rf"(?<![^\s(){{}}\[\];,]){NAME}", m[1]))
     return out
 
@@ -258,7 +261,8 @@ def written(items, keep, spell):
             inner = written(it.items, keep, spell)
             if inner:
                 head = [spell(l, it.path) for l in it.header]
-                out += (it.before if not keep or True else []) + head + inner
+                before = it.before if it.before and not it.before[0].strip() or not out else [""] + it.before
+                out += before + head + inner
         elif keep(it):
             lines = []
             skip = bound(it)
