@@ -19,7 +19,7 @@ use Rattle.model.specs.Node as M
 use Rattle.model.specs.Calls as calls
 use Rattle.model.specs.Handler as handler
 use Rattle.history.specs.Moments.{Told, Sender, Moment, moment_of, moment, trace_then, trace_gossip, trace_message}
-use Rattle.history.specs.Rules.{admit_did}
+use Rattle.history.proofs.Rules.{admit_did}
 use Rattle.types.specs.declared.Gossip.{Gossip}
 use Rattle.types.specs.declared.Optional.{Optional}
 use Rattle.types.specs.declared.Optional.TheVariants.{Given}

@@ -23,7 +23,8 @@ use Rattle.model.specs.Sound.{sound, valid_gossip}
 use Rattle.model.specs.Calls as calls
 use Rattle.laws_node.specs.Good.{FullRows}
 use Rattle.history.specs.Moments.{Moment, Sender, moment, stepped, trace_then, trace_spread, trace_ack, trace_gossip, trace_admit, trace_message}
-use Rattle.history.specs.Worlds.{Passed, first_cases}
+use Rattle.history.specs.Worlds.{Passed}
+use Rattle.history.proofs.Worlds.{first_cases}
 use Rattle.model.specs.Detector.{Stepped, step}
 use Rattle.history.specs.Histories.{World, Call, Receive, Step, Lends, outcome, world_of, moments_by, moments, trace}
 use Rattle.types.specs.declared.Gossip.{Gossip}

@@ -12,7 +12,7 @@ use Rattle.history.specs.Beginnings.{Beginning, Creation, Restart, own_of, Gave}
 use Rattle.history.specs.Moments.{Deed, Told, Sender, Added, Ended, Other, Moment}
 use Rattle.history.specs.Ledger.{Tally, inside, comes, goes, step, tally, begun}
 use Rattle.history.specs.Walk.{Along}
-use Rattle.history.specs.Worlds.{walk, begins, first_good}
+use Rattle.history.proofs.Worlds.{walk, begins, first_good}
 use Rattle.history.specs.Histories.{Call, trace, start}
 use Rattle.accounts.specs.declared.Change.{Change}
 use Rattle.accounts.specs.Changes.{whom, change_of, placed, changes, entries_in, departures_in}

@@ -23,8 +23,9 @@ use Rattle.laws_rules.specs.Keeps.{Keeps, add-keeps}
 use Rattle.history.specs.Moments.{Deed, Added, Ended, Moment, moment_of, moment, silent, trace_add}
 use Rattle.history.specs.Ledger.{carried}
 use Rattle.history.specs.Did.{Did}
-use Rattle.history.specs.Rules.{add_did, already_did}
-use Rattle.history.specs.Worlds.{Passed, first_cases}
+use Rattle.history.proofs.Rules.{add_did, already_did}
+use Rattle.history.specs.Worlds.{Passed}
+use Rattle.history.proofs.Worlds.{first_cases}
 use Rattle.history.specs.Histories.{Add, moments_by, moments}
 use Rattle.node.specs.declared.Node.{Node}
 use Rattle.node.specs.Views.{view_node, pack_node, stored_view, unstored, answer_of}

@@ -25,8 +25,8 @@ use Rattle.laws_rules.specs.Keeps.{Keeps}
 use Rattle.laws_rules.specs.KeepsCalls.{end_keeps, first_over_in}
 use Rattle.history.specs.Moments.{Moment, moment, moment_of, ended_deed}
 use Rattle.history.specs.Did.{Did}
-use Rattle.history.specs.Rules.{timer_did}
-use Rattle.history.specs.Worlds.{first_cases}
+use Rattle.history.proofs.Rules.{timer_did}
+use Rattle.history.proofs.Worlds.{first_cases}
 use Rattle.history.specs.Histories.{Timer, ending_at, moments_by, moments}
 use Rattle.timers.specs.declared.Timers.{Timers}
 use Rattle.timers.specs.declared.Ending.TheVariants.{Nothing, At}

@@ -26,7 +26,7 @@ use Rattle.model.specs.Calls as calls
 use Rattle.model.specs.Handler as handler
 use Rattle.history.specs.Moments.{Told, moment_of, moment, trace_then, trace_gossip}
 use Rattle.history.specs.Ledger.{carried}
-use Rattle.history.specs.Rules.{item_did}
+use Rattle.history.proofs.Rules.{item_did}
 use Rattle.types.specs.declared.Gossip.{Gossip}
 use Rattle.types.specs.declared.Parts.{Parts}
 use Rattle.types.specs.Views.{to_event, to_gossip, to_optional, from_parts, no_gossip}

@@ -1,7 +1,6 @@
 -- A cabinet: any number of controllers, each with its node and its wait record, and a network that may lose, delay, repeat, reorder and forge, but for the records of one topic.
 -- Assumes nothing.
-use Rattle.std.specs.Prelude.{◌≡◌, refl, true, false, List, [], ◌∷◌, ◌++◌, ℕ, suc, ◌+◌, ◌-◌, ◌%◌, ◌≤◌, ◌<◌, min, eqb, length}
-use Rattle.std.proofs.Common.{ap, sym, subst}
+use Rattle.std.specs.Prelude.{◌≡◌, true, false, List, [], ◌∷◌, ◌++◌, ℕ, suc, ◌+◌, ◌-◌, ◌%◌, ◌≤◌, ◌<◌, min, eqb, length}
 use Rattle.std.proofs.Math.Option.{Option, none, some}
 use Rattle.model.specs.declared.Settings.{Settings}
 use Rattle.model.specs.declared.Reply.{Reply}
@@ -14,7 +13,7 @@ use Rattle.model.specs.Calls.{Outcome, end_timer}
 use Rattle.history.specs.Beginnings.{Beginning, Gave}
 use Rattle.history.specs.Histories.{World, Call, Add, Receive, Step, Timer, Lends, outcome, world_of}
 use Rattle.history.specs.Tells.{At}
-use Rattle.cabinet.specs.Each.{Each, nil, cons, Among, here, there, among-map}
+use Rattle.cabinet.specs.Each.{Each, Among}
 
 -- which records of a message may not be forged
 pub data Topic : Type 0 where
@@ -77,26 +76,6 @@ module _ {A : Type 0} where
   Brings k (Step tick ds lent) sent = Unit {0}
   Brings k (Timer tick lent) sent = Unit {0}
   Brings k (Lends wait) sent = wait.state ≡ SendingPing
-
-  -- so a network that brings whole messages as they were sent, to anyone, at any time and any number of times, will do
-  pub delivered : (k : Topic) (action : Action A) (gs : List (Gossip A)) (sent : List (Message A)) → Among (λ m. (m.action ≡ action) × (m.gossip ≡ gs)) sent → InGossip k (Said k sent) gs
-  delivered k action gs sent a = all gs (λ g i. among-map (λ m e. subst (Among (λ g'. g' ≡ g)) (sym e.1) i) a)
-    where
-      one : (k : Topic) (e : Event A) → Among (λ m. Among (λ g. g.event ≡ e) m.gossip) sent → About k (Said k sent) e
-      one deaths Nothing b = tt
-      one deaths (Joined f x n) b = tt
-      one deaths (Recovered f x n) b = tt
-      one deaths (Suspected f x n) b = tt
-      one deaths (Deceased f x n) b = among-map (λ m c. among-map (λ g q. (f, q)) c) b
-      one suspicions Nothing b = tt
-      one suspicions (Joined f x n) b = tt
-      one suspicions (Recovered f x n) b = tt
-      one suspicions (Suspected f x n) b = among-map (λ m c. among-map (λ g q. (f, q)) c) b
-      one suspicions (Deceased f x n) b = tt
-
-      all : (hs : List (Gossip A)) → ((g : Gossip A) → Among (λ g'. g' ≡ g) hs → Among (λ m. Among (λ g'. g' ≡ g) m.gossip) sent) → InGossip k (Said k sent) hs
-      all [] f = nil
-      all (g ∷ hs) f = cons (one k g.event (among-map (λ m c. among-map (λ g' q. ap (λ (y : Gossip A). y.event) q) c) (f g (here refl)))) (all hs (λ g' i. f g' (there i)))
 
   -- a step at this tick; a timer call at this tick
   abbrev pub StepAt : ℕ → Call A → Type 0

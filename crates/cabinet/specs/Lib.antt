@@ -11,5 +11,3 @@ pub mod Alone
 pub mod Hearing
 pub mod Standing
 pub mod NoForgedDeath
-pub mod NoForgedSuspicion
-pub mod Witness

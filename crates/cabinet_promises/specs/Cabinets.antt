@@ -11,10 +11,10 @@ use Rattle.model.specs.Node as M
 use Rattle.history.specs.Beginnings.{Beginning}
 use Rattle.history.specs.Histories.{World, Call, outcome, world_of}
 use Rattle.cabinet.specs.Cabinets.{Topic, deaths, suspicions, Turn, InGossip, InHeap, InMessages, Brings, Fresh, fresh, worlds, given, sent, Honest, Mute, Pinging, Unheard, Asking, StillUnheard, TimedOut, AskedFor}
-use Rattle.cabinet.specs.NoForgedDeath as death
+use Rattle.cabinet.proofs.NoForgedDeath as death
 use Rattle.cabinet.specs.NoForgedDeath.{Struck}
-use Rattle.cabinet.specs.NoForgedSuspicion as suspicion
-use Rattle.cabinet.specs.Hearing as hearing
+use Rattle.cabinet.proofs.NoForgedSuspicion as suspicion
+use Rattle.cabinet.proofs.Hearing as hearing
 use Rattle.types.specs.declared.Gossip.{Gossip}
 use Rattle.node.specs.declared.Node.{Node}
 use Rattle.node.specs.Views.{stored_view, view_node}

@@ -13,9 +13,10 @@ use Rattle.model.specs.Calls.{valid_action}
 use Rattle.model.specs.Words as W
 use Rattle.model.specs.Node as M
 use Rattle.history.specs.Histories.{Call, Add, Receive, Step, Timer, Lends}
-use Rattle.cabinet.specs.Each.{Each, nil, cons, Among, here as at_first, there, among-map, each_map, each_at}
+use Rattle.cabinet.specs.Each.{Each, nil, cons, Among, here as at_first, there}
+use Rattle.cabinet.proofs.Each.{among-map, each_map, each_at}
 use Rattle.cabinet.specs.Cabinets.{Topic, deaths, suspicions, Turn, About, Names, Said as SaidIn, InGossip, Brings, TimedOut}
-use Rattle.cabinet.specs.Rules.{about-map}
+use Rattle.cabinet.proofs.Rules.{about-map}
 use Rattle.types.specs.declared.Gossip.{Gossip}
 use Rattle.types.specs.declared.Action.{Action}
 use Rattle.types.specs.Views.{to_gossip, from_gossip, to_action, from_action, no_gossip, to_from_gossips}

@@ -10,7 +10,7 @@ use Rattle.address.specs.Here.{Addr, here}
 use Rattle.model.specs.Words as W
 use Rattle.model.specs.Calls as calls
 use Rattle.history.specs.Histories.{Call, outcome}
-use Rattle.cabinet.specs.Calls.{add-sends, timer_sends}
+use Rattle.cabinet.proofs.Calls.{add-sends, timer_sends}
 use Rattle.types.specs.declared.Gossip.{Gossip}
 use Rattle.types.specs.Views.{to_gossip, from_gossip, to_optional, from_optional, to_action, from_action, to_from_gossips}
 use Rattle.node.specs.declared.Letter.{Letter}

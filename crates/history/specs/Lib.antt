@@ -6,9 +6,7 @@ pub mod Rules
 pub mod Histories
 pub mod Tells
 pub mod Walk
-pub mod WalkSteps
 pub mod Worlds
-pub mod Chain
 pub mod Next
 pub mod Demand3
 pub mod Auditor

@@ -21,7 +21,7 @@ use Rattle.model.specs.declared.Kind.{Kind}
 use Rattle.model.specs.declared.Kind.TheVariants as kind
 use Rattle.model.specs.Sound.{in_range, positioned, sound_heap, is_no_member, sound_rows, sound_members, is_no_timer, sound_timers, is_no_departed, sound_departed, sound}
 use Rattle.laws_list.specs.Whole.{Whole}
-use Rattle.laws_list.specs.Counting.{lamps_eq, lamps_same}
+use Rattle.laws_list.proofs.Counting.{lamps_eq, lamps_same}
 use Rattle.laws_list.specs.Distinct.{distinct_once, once_distinct, permutes-counts, counts-permutes}
 use Rattle.laws.specs.Bools.{and_split, and_join, every-replicate}
 use Rattle.laws.specs.Pad.{take_pad, drop_pad, pad_take}

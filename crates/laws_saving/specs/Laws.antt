@@ -22,7 +22,7 @@ use Rattle.laws_list.specs.Whole.{Whole}
 use Rattle.laws_list.specs.Distinct.{once_distinct}
 use Rattle.laws_node.specs.Good.{Good, le_positioned}
 use Rattle.history.specs.Beginnings.{Restart, InRule, Gave, restarts}
-use Rattle.history.specs.Worlds.{first_good}
+use Rattle.history.proofs.Worlds.{first_good}
 use Rattle.numbers.specs.Numbers.{Bytes}
 use Rattle.image.specs.Image.{addr_in, own_in, entries_in, position_in, member_of, Saved, marked, sized, state_in_rule, address_in_rule, in_rule}
 use Rattle.image.specs.Forms.{Forms, image_of, form_in, fields_in, said_by, in_version, Sure}

@@ -22,7 +22,8 @@ use Rattle.address.specs.Here.{Addr, here, here_lawful}
 use Rattle.model.specs.Words as words
 use Rattle.model.specs.Members as list
 use Rattle.model.specs.Lamps.{more, less, lamps_of}
-use Rattle.laws_list.specs.Counting.{light_of, lamps_snoc, lamps_cover, lamps_strike, lamps_put}
+use Rattle.laws_list.specs.Counting.{light_of}
+use Rattle.laws_list.proofs.Counting.{lamps_snoc, lamps_cover, lamps_strike, lamps_put}
 use Rattle.laws_list.specs.Places.{place_of, has-place, erase-place, strike-place, put-place, held_place, state_place}
 use Rattle.model.specs.declared.Drew.TheVariants.{Used, Refused}
 use Rattle.member.specs.declared.Member.{Member}

@@ -12,7 +12,8 @@ use Rattle.model.specs.declared.State.{State}
 use Rattle.model.specs.declared.Lamps.{Lamps}
 use Rattle.model.specs.Words as words
 use Rattle.model.specs.Lamps.{dark, more, less, lamps_of}
-use Rattle.laws_list.specs.Counting.{light_of, Few, light_few, lamps_few, lamps_snoc}
+use Rattle.laws_list.specs.Counting.{light_of, Few}
+use Rattle.laws_list.proofs.Counting.{light_few, lamps_few, lamps_snoc}
 use Rattle.member.specs.declared.Member.{Member}
 use Rattle.member.specs.Views.{to_member, nobody}
 use Rattle.member.proofs.Tables.{map_snoc}

@@ -12,12 +12,14 @@ use Rattle.history.specs.Moments.{Moment, Told}
 use Rattle.history.specs.Beginnings.{Beginning, Creation, Restart, own_of, Gave}
 use Rattle.history.specs.Ledger.{Tally, inside, comes, goes, about, reported, step, begun}
 use Rattle.history.specs.Did.{Fine}
-use Rattle.history.specs.Walk.{Along, along_append}
-use Rattle.history.specs.Worlds.{walk, begins, first_good}
+use Rattle.history.specs.Walk.{Along}
+use Rattle.history.proofs.Walk.{along_append}
+use Rattle.history.proofs.Worlds.{walk, begins, first_good}
 use Rattle.history.specs.Histories.{Call, Receive, moments, trace, start}
 use Rattle.history.specs.Tells.{At}
-use Rattle.history.specs.Next.{Left, Known, goes-out, told_at, at_is}
-use Rattle.history.specs.Demand3 as model
+use Rattle.history.specs.Next.{Left, Known}
+use Rattle.history.proofs.Next.{goes-out, told_at, at_is}
+use Rattle.history.proofs.Demand3 as model
 use Rattle.node.specs.declared.Node.{Node}
 use Rattle.node.specs.Views.{stored_view}
 use Rattle.wait.specs.declared.Wait.{Wait}

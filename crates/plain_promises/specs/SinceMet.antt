@@ -26,7 +26,8 @@ use Rattle.history.specs.Beginnings.{Creation}
 use Rattle.history.specs.Moments.{Moment, Other}
 use Rattle.history.specs.Histories.{Call, Receive}
 use Rattle.history.specs.Tells.{At}
-use Rattle.history.specs.Next.{Left, at_is}
+use Rattle.history.specs.Next.{Left}
+use Rattle.history.proofs.Next.{at_is}
 use Rattle.node.specs.declared.Answer.{Answer}
 use Rattle.node.specs.Views.{stored_view, unstored, created_of}
 use Rattle.wait.specs.Views.{fresh_wait}

@@ -4,6 +4,5 @@ pub mod Looks
 pub mod Still
 pub mod Stretch
 pub mod Pinged
-pub mod Sharp
 pub mod Sent
 pub mod Met

@@ -14,8 +14,9 @@ use Rattle.node.specs.Views.{stored_view, answer_of}
 use Rattle.wait.specs.declared.Wait.{Wait}
 use Rattle.wait.specs.Views.{to_wait}
 use Rattle.history.specs.Histories.{World, Call, Add, Receive, Step, Timer, moments}
-use Rattle.history.specs.Taken.{collected_in, collected_is, Pushed, heaps_are}
-use Rattle.history.specs.Uncollected.{off-collects-none}
+use Rattle.history.specs.Taken.{collected_in, Pushed}
+use Rattle.history.proofs.Taken.{collected_is, heaps_are}
+use Rattle.history.proofs.Uncollected.{off-collects-none}
 use Rattle.swim.specs.declared.Outcome.{Outcome}
 use Rattle.swim.specs.Promises.{outcome_of, room, Adds, Receives, Steps, EndsTimer}
 

@@ -17,17 +17,18 @@ use Rattle.model.specs.Detector.{first_over}
 use Rattle.model.specs.Sound.{sound}
 use Rattle.history.specs.Moments.{Moment}
 use Rattle.history.specs.Beginnings.{Beginning, own_of, Gave}
-use Rattle.history.specs.Worlds.{first_is}
+use Rattle.history.proofs.Worlds.{first_is}
 use Rattle.history.specs.Ledger.{Tally, carried, tally, begun}
 use Rattle.history.specs.Walk.{Along}
 use Rattle.history.specs.Histories as history
 use Rattle.history.specs.Histories.{World, Call, Receive, Step, outcome, world_of, run, moments, trace, start}
 use Rattle.history.specs.Tells.{At, targets, Leads, said_by, deeds_in, asked, asked_by}
-use Rattle.history.specs.Next.{Known, Left, StaysListed, rises_along, bounded}
-use Rattle.history.specs.Demand3 as model
-use Rattle.history.specs.Auditor as auditor
+use Rattle.history.specs.Next.{Known, Left, StaysListed}
+use Rattle.history.proofs.Next.{rises_along, bounded}
+use Rattle.history.proofs.Demand3 as model
+use Rattle.history.proofs.Auditor as auditor
 use Rattle.history.specs.Auditor.{Cause, Absent, TakenOut}
-use Rattle.history.specs.Started as timers
+use Rattle.history.proofs.Started as timers
 use Rattle.history.specs.Started.{Within, started}
 use Rattle.types.specs.declared.Gossip.{Gossip}
 use Rattle.node.specs.declared.Node.{Node}

@@ -5,7 +5,7 @@ use Rattle.model.specs.declared.Settings.{Settings}
 use Rattle.address.specs.Here.{Addr, here}
 use Rattle.model.specs.Calls as calls
 use Rattle.model.specs.Sound.{in_range}
-use Rattle.history.specs.Worlds.{first_cases}
+use Rattle.history.proofs.Worlds.{first_cases}
 use Rattle.history.specs.Histories.{Call, Add, Receive, Step, Timer, Lends}
 use Rattle.types.specs.declared.Gossip.{Gossip}
 use Rattle.types.specs.declared.Action.{Action}

@@ -5,7 +5,8 @@ use Rattle.std.proofs.Common.{sym, ◌∙◌, ap, subst, arith}
 use Rattle.model.specs.declared.Refusal.{Refusal}
 use Rattle.model.specs.Answers.{Answer, done, refused, and_then, when}
 use Rattle.model.specs.Calls.{first_of}
-pub use Rattle.history.specs.Worlds.{Passed, first_cases}
+pub use Rattle.history.specs.Worlds.{Passed}
+use Rattle.history.proofs.Worlds.{first_cases}
 
 -- the first test of a list that fails gives x
 pub data FirstFails (x : Refusal) : List (Bool × Refusal) → Type 0 where

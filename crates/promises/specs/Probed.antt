@@ -8,7 +8,7 @@ use Rattle.address.specs.Here.{Addr, here, here_lawful}
 use Rattle.model.specs.Rows.{has}
 use Rattle.model.specs.Words as W
 use Rattle.model.specs.Node as M
-use Rattle.history.specs.Rules.{never}
+use Rattle.history.proofs.Rules.{never}
 use Rattle.history.specs.Beginnings.{Beginning, own_of}
 use Rattle.history.specs.Histories.{World, Call, outcome, trace}
 use Rattle.types.specs.Views.{to_action, from_action}
@@ -19,8 +19,9 @@ use Rattle.node.specs.Views.{view_node, from_message}
 use Rattle.wait.specs.declared.Wait.{Wait}
 use Rattle.probing.specs.Still.{NobodyMoves}
 use Rattle.probing.specs.Stretch.{pings, pinged, pings_of, requests_of, pinged_along}
-use Rattle.probing.specs.Sent.{PingTo, has_either, first-pings}
-use Rattle.probing.specs.Pinged as model
+use Rattle.probing.specs.Sent.{PingTo}
+use Rattle.probing.proofs.Sent.{has_either, first-pings}
+use Rattle.probing.proofs.Pinged as model
 use Rattle.promises.specs.Begun.{Begun, begun-gave}
 use Rattle.promises.specs.Runs.{world, seen, made_is, Runs, rests, makes}
 use Rattle.promises.specs.Demand3.{replayed}

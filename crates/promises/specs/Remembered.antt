@@ -14,13 +14,16 @@ use Rattle.history.specs.Histories.{World, Call, trace, start}
 use Rattle.remembering.specs.Removals.{removals, row_by, since}
 use Rattle.remembering.specs.Standing.{Takes}
 use Rattle.remembering.specs.Entering.{asked}
-use Rattle.remembering.specs.Row as model
-use Rattle.remembering.specs.Counted as counted
+use Rattle.remembering.proofs.Row as model
+use Rattle.remembering.proofs.Counted as counted
 use Rattle.remembering.specs.Counted.{times}
-use Rattle.remembering.specs.Above as above
-use Rattle.remembering.specs.Above.{all_below, most, greatest-since}
-use Rattle.remembering.specs.Order.{lasts, newest, ordered}
-use Rattle.remembering.specs.Sane.{Sane, sane_row}
+use Rattle.remembering.proofs.Above as above
+use Rattle.remembering.specs.Above.{all_below, most}
+use Rattle.remembering.proofs.Above.{greatest-since}
+use Rattle.remembering.specs.Order.{lasts, newest}
+use Rattle.remembering.proofs.Order.{ordered}
+use Rattle.remembering.specs.Sane.{Sane}
+use Rattle.remembering.proofs.Sane.{sane_row}
 use Rattle.departed.specs.Views.{departed_view}
 use Rattle.node.specs.declared.Node.{Node}
 use Rattle.node.specs.Views.{stored_view, view_node}

@@ -11,7 +11,7 @@ use Rattle.model.specs.Rows.{pad_to}
 use Rattle.laws.specs.Pad.{take_pad}
 use Rattle.model.specs.Node as M
 use Rattle.model.specs.Calls as calls
-use Rattle.history.specs.Worlds.{first_cases}
+use Rattle.history.proofs.Worlds.{first_cases}
 use Rattle.history.specs.Histories.{World, Call, outcome, world_of, run}
 use Rattle.heap.specs.Views.{to_from_entries}
 use Rattle.member.specs.Views.{to_member, from_member}

@@ -2,7 +2,6 @@
 pub mod Removals
 pub mod Entering
 pub mod Rows
-pub mod Row
 pub mod Above
 pub mod Counted
 pub mod Order

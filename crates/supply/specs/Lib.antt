@@ -11,5 +11,3 @@ pub mod Remedy
 pub mod Wedged
 pub mod Meanwhile
 pub mod Exactly
-pub mod Slowest
-pub mod Built

@@ -19,8 +19,9 @@ use Rattle.wait.specs.Views.{to_wait, fresh_wait}
 use Rattle.swim.specs.declared.Outcome.{Outcome}
 use Rattle.swim.specs.Promises.{room, outcome_of, message_of, step_of, Adds, Receives, Steps, EndsTimer}
 use Rattle.supply.specs.Entries.{comers, entry_draws}
-use Rattle.supply.specs.Lending.{step_draws, add-lent, message-lent, message-each, message-most, step-lent, step-most, timer_lent}
-use Rattle.supply.specs.Built.{never_full-here}
+use Rattle.supply.specs.Lending.{step_draws}
+use Rattle.supply.proofs.Lending.{add-lent, message-lent, message-each, message-most, step-lent, step-most, timer_lent}
+use Rattle.supply.proofs.Built.{never_full-here}
 
 -- 1 draw for an add
 pub add_enough : (node : Node) (a : Addr) (number : ℕ) (draws : List ℕ) (r : Answer) → Adds node a number draws r → 1 ≤ length draws → reply_number r.reply ≡ 8 → ⊥

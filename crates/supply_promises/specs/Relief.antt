@@ -16,7 +16,7 @@ use Rattle.wait.specs.Views.{to_wait}
 use Rattle.promises.specs.Made.{Held, Said}
 use Rattle.promises.specs.Runs.{world, seen, MadeAs, made_is, Runs, rests, makes}
 use Rattle.supply.specs.Meanwhile.{FullAlong}
-use Rattle.supply.specs.Built.{room_meanwhile_here}
+use Rattle.supply.proofs.Built.{room_meanwhile_here}
 
 -- a call that pinged: a step, lent a wait record in SendingPing, that answered "done"
 abbrev pub pings_made : Held → Call Addr → Said → ℕ

@@ -32,9 +32,9 @@ use Rattle.history.specs.Histories.{World, Call, Add, Receive, Step, Timer, Lend
 use Rattle.cabinet.specs.Each.{Each, nil, cons, here}
 use Rattle.cabinet.specs.Cabinets.{deaths, suspicions, Turn, Once, this, earlier, Latest, last, since, Pinging, Said, Fresh, nodes, given, sent, Honest, TimedOut, AskedFor}
 use Rattle.cabinet.specs.Cabinets as cabinets
-use Rattle.history.specs.Rules.{never}
-use Rattle.cabinet.specs.NoForgedDeath.{strikes}
-use Rattle.cabinet.specs.NoForgedSuspicion.{reports}
+use Rattle.history.proofs.Rules.{never}
+use Rattle.cabinet.proofs.NoForgedDeath.{strikes}
+use Rattle.cabinet.proofs.NoForgedSuspicion.{reports}
 
 abbrev numbers : Address ℕ
 numbers = record { same = eqb; blank = 0; valid = λ a. ltb a 10; chars = λ a. 9 }

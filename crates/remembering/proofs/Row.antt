@@ -1,10 +1,10 @@
 -- "The row is exactly what the history of removals says under that rule": of every history from the node that creation or a restart gave.
 -- Assumes nothing.
-use Rattle.std.specs.Prelude.{◌≡◌, Bool, ℕ, ◌<◌, length}
+use Rattle.std.specs.Prelude.{◌≡◌, ℕ, ◌<◌, length}
 use Rattle.std.proofs.Math.Path.{refl}
 use Rattle.std.proofs.Common.{ap, sym, ◌∙◌, subst}
 use Rattle.std.proofs.Math.Bool.{true, false}
-use mathlib.Core.List.{List, [], ◌∷◌, ◌++◌}
+use mathlib.Core.List.{List, [], ◌∷◌}
 use Rattle.std.proofs.Math.Option.{Option, none, some}
 use Rattle.std.proofs.lemmas.Bool.{not-false}
 use Rattle.model.specs.declared.Cause.{Cause}
@@ -14,7 +14,7 @@ use Rattle.model.specs.Rows.{every}
 use Rattle.laws.specs.Bools.{and_split}
 use Rattle.model.specs.Answers.{Answer, done, and_then}
 use Rattle.laws.specs.After.{After, halts, gives, after_then, after_both}
-use Rattle.model.specs.Words.{Address, Lawful, Wait, Departed}
+use Rattle.model.specs.Words.{Address, Lawful, Wait}
 use Rattle.model.specs.Members.{Members}
 use Rattle.model.specs.Node.{Node, Effect, Stored, loaded, stored, fresh, with_members, lists}
 use Rattle.model.specs.Detector as D
@@ -28,11 +28,13 @@ use Rattle.history.specs.Moments.{Added, Moment, moment, silent, trace_add, trac
 use Rattle.history.specs.Ledger.{Tally, tally}
 use Rattle.history.specs.Histories.{World, Call, Add, Receive, Step, Lends, outcome, world_of, run, ending_at, moments_by, moments, trace, start}
 use Rattle.history.specs.Histories as history
-use Rattle.history.specs.Worlds.{Stands, stands, call-stands, first_cases}
-use Rattle.history.specs.Demand3 as demand3
+use Rattle.history.specs.Worlds.{Stands, stands}
+use Rattle.history.proofs.Worlds.{call-stands, first_cases}
+use Rattle.history.proofs.Demand3 as demand3
 use Rattle.remembering.specs.Removals.{removals, row_by}
 use Rattle.remembering.specs.Entering.{Along}
-use Rattle.remembering.specs.Rows.{Remembers, aside, remembers_on, message_remembers, step_remembers, timer_remembers}
+use Rattle.remembering.specs.Rows.{Remembers}
+use Rattle.remembering.proofs.Rows.{aside, remembers_on, message_remembers, step_remembers, timer_remembers}
 
 module _ {A : Type 0} (address : Address A) (lawful : Lawful address) (s : Node A) (w : Wait A) (g : Good address s) where
   abbrev seen : Node A

@@ -28,8 +28,9 @@ use Rattle.history.specs.Histories.{World, Call, Receive, Step, Lends}
 use Rattle.probing.specs.Stretch.{pings_of}
 use Rattle.supply.specs.Meanwhile.{FullAlong}
 use Rattle.supply.specs.Numbered.{numbers, up_to, listed}
-use Rattle.supply.specs.Remedy.{fresh_wait, Turn, Ready, ReadyAll, after, room_most}
-use Rattle.supply.specs.Exactly.{full_until}
+use Rattle.supply.specs.Remedy.{fresh_wait, Turn, Ready, ReadyAll, after}
+use Rattle.supply.proofs.Remedy.{room_most}
+use Rattle.supply.proofs.Exactly.{full_until}
 use Rattle.supply.specs.Shuffles.{pick_draws}
 
 -- one record a message, and a send constant of 8

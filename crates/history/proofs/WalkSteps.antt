@@ -16,9 +16,11 @@ use Rattle.laws_list.specs.Whole.{Whole}
 use Rattle.laws_list.specs.Picking.{Turned, pick-turned}
 use Rattle.history.specs.Moments.{Other, stepped, trace_step}
 use Rattle.history.specs.Ledger.{Tally}
-use Rattle.history.specs.Did.{Did, Kept, moved_did}
-use Rattle.history.specs.Rules.{put-silent, other_did, suspect_did}
-use Rattle.history.specs.Walk.{Walked, one-step}
+use Rattle.history.specs.Did.{Did, Kept}
+use Rattle.history.proofs.Did.{moved_did}
+use Rattle.history.proofs.Rules.{put-silent, other_did, suspect_did}
+use Rattle.history.specs.Walk.{Walked}
+use Rattle.history.proofs.Walk.{one-step}
 
 module _ {A : Type 0} (address : Address A) (a : A) (lawful : Lawful address) where
   -- what a step did to the address

@@ -7,7 +7,8 @@ use Rattle.model.specs.Words.{Address, Lawful}
 use Rattle.history.specs.Histories.{World}
 use Rattle.cabinet.specs.Cabinets.{suspicions, Turn, InGossip, InHeap, InMessages, Brings, Fresh, nodes, given, sent, Honest, AskedFor}
 use Rattle.cabinet.specs.Calls.{Tells}
-use Rattle.cabinet.specs.Standing.{Standing, standing, brought, turn_gives}
+use Rattle.cabinet.specs.Standing.{Standing}
+use Rattle.cabinet.proofs.Standing.{standing, brought, turn_gives}
 
 module _ {A : Type 0} (address : Address A) (lawful : Lawful address) (begins : ℕ → World A) (fresh : (j : ℕ) → Fresh address (begins j))
     (h : List (Turn A)) (honest : Honest address begins suspicions h) where

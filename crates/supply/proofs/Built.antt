@@ -9,8 +9,10 @@ use Rattle.model.specs.Calls.{reply_number, detect}
 use Rattle.laws_node.specs.Good.{FullRows}
 use Rattle.history.specs.Histories.{World, Call}
 use Rattle.probing.specs.Stretch.{pings_of}
-use Rattle.supply.specs.Meanwhile.{FullAlong, room_meanwhile}
-use Rattle.supply.specs.Remedy.{fresh_wait, Turn, Ready, ReadyAll, takes_turn, after, Counted, never_full, turn-counts, room_most}
+use Rattle.supply.specs.Meanwhile.{FullAlong}
+use Rattle.supply.proofs.Meanwhile.{room_meanwhile}
+use Rattle.supply.specs.Remedy.{fresh_wait, Turn, Ready, ReadyAll, takes_turn, after, Counted}
+use Rattle.supply.proofs.Remedy.{never_full, turn-counts, room_most}
 
 short_texts : (a : Addr) → here.valid a ≡ true → here.chars a ≤ 47
 short_texts a v = (here_chars a).1

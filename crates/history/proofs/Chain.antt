@@ -28,7 +28,7 @@ use Rattle.model.specs.Calls.{Outcome, StepOutcome, refuses, or_already, when_du
 use Rattle.history.specs.Moments.{Deed, Told, Sender, Added, Other, Moment, moment, silent, stepped, trace_then, trace_gossip, trace_spread, trace_admit, trace_ack, trace_message, trace_step, trace_add, trace_timer, ended_deed}
 use Rattle.history.specs.Histories.{World, Call, Add, Receive, Step, Timer, Lends, outcome, ending_at, moments_by, moments}
 use Rattle.history.specs.Tells.{targets, PingGoes, Leads, said_by, deeds_in, Tells, records, message_deeds, timer_deeds, asked_by, deeds_of}
-use Rattle.history.specs.Worlds.{first_cases}
+use Rattle.history.proofs.Worlds.{first_cases}
 
 module _ {A : Type 0} where
   leads-on : (s s' s'' : Node A) (ms ns : List (Moment A)) → Leads s ms s' → Leads s' ns s'' → Leads s (ms ++ ns) s''
