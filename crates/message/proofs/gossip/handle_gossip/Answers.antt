@@ -176,20 +176,24 @@ clear-there j =
 module _ (p : lts.Joined5 tie.the-claims reads.Pre reads.Post goal.the-invariant-loop-i goal.the-decreases-loop-i tie.handed_clauses) where
   abbrev open-to : lts.Else3 tie.the-claims reads.Pre reads.Post goal.the-invariant-loop-i goal.the-decreases-loop-i tie.handed_clauses
   open-to = p.before.before.before
+
   abbrev judged : lts.After-verdict_at tie.the-claims reads.Pre reads.Post goal.the-invariant-loop-i goal.the-decreases-loop-i tie.handed_clauses
   judged = told open-to
+
   is-alive : p.if-goes_to.alive ≡ told_to kind.Alive (said open-to) (cleared_for p.old_news-old.result (said open-to) p.loop-i.alive)
   is-alive =
       elim p.if-goes_to.branch [
         | then-goes_to w ↦ w.alive-is ∙ w.tell-alive.ensures ∙ ap (told_to kind.Alive (said open-to)) (is-cleared p.before.before)
         | else-goes_to w ↦ w.alive-is ∙ is-cleared p.before.before ∙ sym (told_elsewhere kind.Alive (said open-to) _ (sym p.goes_to.ensures ∙ w.if-goes_to.false))
       ]
+
   is-deceased : p.if-goes_to.deceased ≡ told_to kind.Deceased (said open-to) p.loop-i.deceased
   is-deceased =
       elim p.if-goes_to.branch [
         | then-goes_to w ↦ w.deceased-is ∙ sym (told_elsewhere kind.Deceased (said open-to) _ (living-only (said open-to) (sym p.goes_to.ensures ∙ w.if-goes_to.true)))
         | else-goes_to w ↦ w.deceased-is ∙ w.tell-deceased.ensures
       ]
+
   is_row : let at = p.loop-i in p.if-goes_to.departed ≡ pack_departed (handler.row_after here (verdict judged) (view_members at.members).table (departed_view at.departed))
   is_row =
       let at = p.loop-i in
@@ -322,7 +326,7 @@ loop-i-preserved c =
       omega (arith, is-due c.before.before.before.before.before.before.before.before.before.before.before.before.before.before.before.before.before.before.before),
       omega (arith, ap (λ (x : Report). x.count) n, noted_few at.report w (old c.before.before.before.before.before.before.before.before.before.before.before.before.before.before.before.before.before), at.invariant.1),
       counted_next (to_optional a.lent.sender) (records a.lent) (view_node a.node) a.draws.now at.used at.i (reached c.before.before.before.before.before.before.before.before.before.before.before.before.before.before.before.before.before) at.invariant.2 w (old c.before.before.before.before.before.before.before.before.before.before.before.before.before.before.before.before.before) (current a.node c.list_after-kept.result.members departed alive deceased) (at.used + more) keeps acted,
-      rw n (sofar_more (all c.before.before.before.before.before.before.before.before.before.before.before.before.before.before.before.before.before) a.draws.now (reached c.before.before.before.before.before.before.before.before.before.before.before.before.before.before.before.before.before) at.report at.used (rule c.before.before.before.before.before.before.before.before.before.before.before.before.before.before.before.before.before) (after c.before.before.before.before.before.before.before.before.before.before.before.before.before.before.before.before.before) (due c.before.before.before.before.before.before.before.before.before.before.before.before.before.before.before.before.before) w (old c.before.before.before.before.before.before.before.before.before.before.before.before.before.before.before.before) (current a.node c.list_after-kept.result.members departed alive deceased) (at.used + more) counts keeps (room c.before.before.before.before.before.before.before.before.before.before.before.before.before.before.before.before) acted),
+      rw n (sofar_more (all c.before.before.before.before.before.before.before.before.before.before.before.before.before.before.before.before.before) a.draws.now (reached c.before.before.before.before.before.before.before.before.before.before.before.before.before.before.before.before.before) at.report at.used (rule c.before.before.before.before.before.before.before.before.before.before.before.before.before.before.before.before.before) (after c.before.before.before.before.before.before.before.before.before.before.before.before.before.before.before.before.before) (due c.before.before.before.before.before.before.before.before.before.before.before.before.before.before.before.before.before) w (old c.before.before.before.before.before.before.before.before.before.before.before.before.before.before.before.before.before) (current a.node c.list_after-kept.result.members departed alive deceased) (at.used + more) counts keeps (room c.before.before.before.before.before.before.before.before.before.before.before.before.before.before.before.before.before) acted),
       omega (arith, ap (λ (x : Report). x.collected) n, counts, is-old c.before.before.before.before.before.before.before.before.before, few-old c.before.before.before.before.before.before.before.before.before, at.invariant.4),
     )
 
