@@ -1,6 +1,6 @@
 -- The rows' counts are those of the lists that they hold; a verdict by the code's values is the verdict of the rules; and each way out of the call.
 -- Assumes nothing.
-use mathlib.Core.Path.{◌≡◌, refl, ap, sym, ◌∙◌}
+use mathlib.Core.Path.{◌≡◌, ap, sym, ◌∙◌}
 use mathlib.Core.Bool.{Bool, true, false, not}
 use mathlib.Core.List.{List, [], ◌∷◌}
 use mathlib.Core.Option.{Option}
@@ -14,7 +14,6 @@ use Rattle.model.specs.declared.Refusal.TheVariants.{Unsound, AddressRange}
 use Rattle.model.specs.Rows.{pick}
 use Rattle.model.specs.Answers.{full_of}
 use Rattle.address.specs.Here.{Addr, here}
-use Rattle.model.specs.Choose.{death}
 use Rattle.model.specs.Words as W
 use Rattle.model.specs.Node as M
 use Rattle.model.specs.Sound.{sound, valid_gossip}
@@ -36,7 +35,6 @@ use Rattle.rules.specs.declared.Verdict.{Verdict}
 use Rattle.rules.specs.Views.{collects_for, to_found, to_from_found, to_verdict, from_verdict, to_from_verdict}
 use Rattle.why.specs.declared.Grounds.{Grounds}
 use Rattle.why.specs.declared.Grounds.TheVariants.{Refused}
-use Rattle.why.specs.declared.Stop.{Stop}
 use Rattle.why.specs.declared.Stop.TheVariants as stop
 use Rattle.why.specs.Why.{verdict_on, weigh, why}
 use Rattle.why.specs.Stopped.{list_stop, heap_stop, or_stop, stop_of, unless_stopped, parts_grounds, weighed}

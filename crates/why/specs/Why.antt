@@ -1,7 +1,6 @@
 -- "Why did you do that?": which rule decides an event, on this node with these draws. For any type of address.
 -- Assumes nothing.
 use Rattle.std.specs.Prelude.{Bool, not, List, [], ◌∷◌, ℕ, ltb}
-use Rattle.std.proofs.Math.Option.{Option}
 use Rattle.model.specs.declared.Refusal.{Refusal}
 use Rattle.model.specs.declared.Refusal.TheVariants.{Unsound, AddressRange}
 use Rattle.model.specs.Rows.{pick}

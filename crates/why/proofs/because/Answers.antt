@@ -1,9 +1,8 @@
 -- `why::because` meets its contract: a record of no event has no numbers.
 -- Assumes nothing.
 -- with no event, with one, and chosen between
-use mathlib.Core.Path.{◌≡◌, ap, sym, ◌∙◌}
+use mathlib.Core.Path.{ap, sym, ◌∙◌}
 use mathlib.Core.Bool.{Bool}
-use borrow.Author.Rules.{rules}
 use borrow.Author.Tests.{eq-eqb, ne_eqb}
 use Rattle.address.specs.Here.{here}
 use Rattle.model.specs.Rows.{pick}

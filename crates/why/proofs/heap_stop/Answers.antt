@@ -2,7 +2,6 @@
 -- Assumes nothing.
 -- what stops news
 use mathlib.Core.Path.{ap, sym, ◌∙◌}
-use borrow.Author.Rules.{rules}
 use Rattle.rules.specs.declared.News.{News}
 use Rattle.rules.specs.Views.{to_news}
 use Rattle.why.specs.declared.Stop.{Stop}

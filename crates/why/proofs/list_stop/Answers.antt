@@ -2,7 +2,6 @@
 -- Assumes nothing.
 -- what stops each verdict
 use mathlib.Core.Path.{ap, sym, ◌∙◌}
-use borrow.Author.Rules.{rules}
 use Rattle.rules.specs.declared.Verdict.{Verdict}
 use Rattle.rules.specs.Views.{to_verdict}
 use Rattle.why.specs.declared.Stop.{Stop}

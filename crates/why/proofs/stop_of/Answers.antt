@@ -2,12 +2,10 @@
 -- Assumes nothing.
 -- the verdict's news, what the heaps say to it, and that after the list
 use mathlib.Core.Path.{ap, sym, ◌∙◌}
-use borrow.Author.Rules.{rules}
 use Prim.Native.Nat.{ℕ, ◌-◌}
 use Rattle.address.specs.Here.{Addr, here}
 use Rattle.heap.specs.Views.{heap_view}
 use Rattle.model.specs.Handler as handler
-use Rattle.rules.specs.declared.News.{News}
 use Rattle.rules.specs.Views.{collects_for, to_verdict, to_news, to_from_news}
 use Rattle.why.specs.declared.Stop.{Stop}
 use Rattle.why.specs.Stopped.{heap_stop, or_stop}

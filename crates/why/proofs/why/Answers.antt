@@ -3,11 +3,8 @@
 -- what has passed where each test was left
 use mathlib.Core.Path.{◌≡◌, sym, ◌∙◌}
 use mathlib.Core.Bool.{true}
-use borrow.Author.Rules.{rules}
-use borrow.Author.Tests.{not-true, not-false}
 use Rattle.address.specs.Here.{here}
-use Rattle.model.specs.Sound.{sound, valid_gossip}
-use Rattle.types.specs.Views.{to_gossip}
+use Rattle.model.specs.Sound.{sound}
 use Rattle.node.specs.Views.{stored_view}
 use Rattle.node.specs.Rows.{sound_ready}
 use Rattle.why.proofs.Weighing.{why_unsound, why-out_of_range, why_weighs}
@@ -27,12 +24,12 @@ returns-then-not-sound c =
 pub returns-then-not-valid_gossip : goal.returns-then-not-valid_gossip
 returns-then-not-valid_gossip c =
     let a = c.args in
-    why-out_of_range a.node a.g a.draws.now (sound-there c.before.before) (sym c.valid_gossip.ensures ∙ c.if-not-valid_gossip.true)
+    why-out_of_range a.node a.g a.draws.now (sound-there c.before.before.before) (sym c.valid_gossip.ensures ∙ c.if-not-valid_gossip.true)
 
 pub weigh-requires : goal.weigh-requires
-weigh-requires c = sound_ready c.args.node c.has_rows.ensures (sound-there c.before.before)
+weigh-requires c = sound_ready c.args.node c.has_rows.ensures (sound-there c.before.before.before)
 
 pub returns : goal.returns
 returns c =
     let a = c.args in
-    c.weigh.ensures ∙ why_weighs a.node a.g a.draws.now (sound-there c.before.before.before) (sym c.valid_gossip.ensures ∙ c.if-not-valid_gossip.false)
+    c.weigh.ensures ∙ why_weighs a.node a.g a.draws.now (sound-there c.before.before.before.before) (sym c.valid_gossip.ensures ∙ c.if-not-valid_gossip.false)

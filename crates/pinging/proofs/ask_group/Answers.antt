@@ -4,7 +4,6 @@ use mathlib.Core.Path.{refl, ap, sym, ◌∙◌}
 use mathlib.Core.List.{[], ◌∷◌}
 use native.Mathlib.Omega.{arith}
 use lib.ListN.{take}
-use borrow.Author.Rules.{rules}
 use Rattle.address.specs.Here.{Addr, here}
 use Rattle.model.specs.Words as W
 use Rattle.model.specs.Node as M
@@ -14,22 +13,17 @@ use Rattle.node.specs.Views.{view_node}
 use Rattle.wait.specs.declared.Stepped.{Stepped}
 use Rattle.pinging.specs.declared.Asked.{Asked}
 use Rattle.wait.specs.Ends.{kept-rows}
-use Rattle.pinging.proofs.ask_group.Statement.{statement}
-use Rattle.pinging.proofs.ask_group.Tie as tie
+use Rattle.pinging.proofs.ask_group.Goals as goal
 
-returns : tie.Need-returns
+pub returns : goal.returns
 returns c =
-    let k = c.before.before.before.before in
-    let a = k.before.before.args in
+    let a = c.args in
     let e : M.Effect Addr = D.ask_each here a.s.target (take a.picks.count a.picks.row) (view_node a.node) [] in
     record {
       is =
           c.kept.ensures
-          ∙ kept-rows a.used k.ask-each.result.node k.ask-each.result.mail _ (a.s.gossip ∷ []) 1 e.node e.messages (to_gossip a.s.gossip ∷ []) a.collected (D.enters (W.WaitingForPingReqAck a.s.target a.s.number) a.tick)
-          (ap (λ (x : Asked). x.node) k.ask-each.ensures.0) (ap (λ (x : Asked). x.mail) k.ask-each.ensures.0) refl (λ i. sym (from-to_gossip a.s.gossip) i ∷ []) refl;
-      written = omega (arith, ap (λ (x : Stepped). x.written) c.kept.ensures, k.ask-each.ensures.1);
+          ∙ kept-rows a.used c.ask_each-asked.result.node c.ask_each-asked.result.mail _ (a.s.gossip ∷ []) 1 e.node e.messages (to_gossip a.s.gossip ∷ []) a.collected (D.enters (W.WaitingForPingReqAck a.s.target a.s.number) a.tick)
+          (ap (λ (x : Asked). x.node) c.ask_each-asked.ensures.value) (ap (λ (x : Asked). x.mail) c.ask_each-asked.ensures.value) refl (λ i. sym (from-to_gossip a.s.gossip) i ∷ []) refl;
+      written = omega (arith, ap (λ (x : Stepped). x.written) c.kept.ensures, c.ask_each-asked.ensures.within);
       reported = omega (arith, ap (λ (x : Stepped). x.reported) c.kept.ensures);
     }
-
-pub ask_group_spec : {M : Type 1} → statement M
-ask_group_spec = tie.close (tie.spec (λ c κs. search rules) (λ c κs. search rules) returns)
