@@ -153,7 +153,7 @@ class File:
         with open(f"crates/{crate}/specs/{name}.antt", encoding="utf-8") as f:
             lines = f.read().rstrip("\n").split("\n")
         at = 0
-        while at < len(lines) and (lines[at].startswith(("use ", "--", "  ", "}")) or not lines[at].strip()):
+        while at < len(lines) and (lines[at].startswith(("use ", "pub use ", "--", "  ", "}")) or not lines[at].strip()):
             at += 1
         while at > 0 and (lines[at - 1].startswith("--") or not lines[at - 1].strip()):
             at -= 1
@@ -163,7 +163,8 @@ class File:
             if not l.startswith("--"):
                 break
             self.notes.append(l)
-        self.uses = re.findall(r"(?m)^use [^\n{]*(?:\{[^}]*\})?[^\n]*", "\n".join(head[len(self.notes) :]))
+        self.shared = [l for l in head if l.startswith("pub use ")]
+        self.uses = re.findall(r"(?m)^(?:pub )?use [^\n{]*(?:\{[^}]*\})?[^\n]*", "\n".join(head[len(self.notes) :]))
         if not self.uses and at == 0:
             self.notes = []
         body = lines[at:]
@@ -281,11 +282,16 @@ def shared(a, b):
     return n
 
 
-def trimmed(uses, text):
+def trimmed(uses, text, keeps=False):
     out = []
     have = tokens(text)
     plain = re.sub(r"(?m)(^|\s)--.*$", "", text)
     for u in uses:
+        if u.startswith("pub use "):
+            if keeps:
+                out.append(u)
+                continue
+            u = u[len("pub ") :]
         m = re.match(r"(use [^{]*)\{(.*)\}$", u, re.S)
         if m:
             items = [i.strip() for i in m[2].split(",") if i.strip()]
@@ -370,7 +376,7 @@ def turn(crate, only):
         specs = written(f.items, lambda d: not d.moves, lambda l, p, b=(): l)
         if staying:
             text = "\n".join(specs)
-            out = f.notes + trimmed(f.uses, text) + [""] + specs
+            out = f.notes + trimmed(f.uses, text, True) + [""] + specs
             with open(f"crates/{crate}/specs/{n}.antt", "w", encoding="utf-8") as g:
                 g.write(re.sub(r"\n{3,}", "\n\n", "\n".join(out)).rstrip() + "\n")
         else:
