@@ -341,6 +341,9 @@ def turn(crate, only):
                 t = m[0]
                 if t not in by or t in skip:
                     return t
+                # A field of a record that is made.
+                if line[m.end() : m.end() + 2] == " =" and re.search(r"(^\s*|[{;] *)$", line[: m.start()]):
+                    return t
                 d = by[t][0]
                 k = shared(d.path, path)
                 args = [p for mod in d.path[:k] for p in mod.params]

@@ -15,7 +15,6 @@ use Rattle.laws.specs.Bools.{and_split, and_join}
 use Rattle.laws_list.specs.Counting.{Few, Covers, light_of}
 
 module _ {A : Type 0} (same : A → A → Bool) where
-
   -- it holds for each state whether the peer counts
   light_is : (own a : A) (s : State)
       → (light_of same) own a s ≡ record { alive = one (counts same Alive own a s); pending = one (counts same Pending own a s); suspected = one (counts same Suspected own a s) }
@@ -61,6 +60,7 @@ module _ {A : Type 0} (same : A → A → Bool) where
             | true ↦ λ q _. omega (arith, ap (λ (x : A). one (counts same st own x m.state)) (test.same_eq k.addr m.addr q))
             | false ↦ λ q r. omega (arith, count-put k t r)
           ]) refl e
+
   one_le : (u : Bool) → one u ≤ 1
   one_le true = omega arith
   one_le false = omega arith
@@ -101,6 +101,7 @@ module _ {A : Type 0} (same : A → A → Bool) where
       where
         struck : (st : State) → count_of same st own (strike same a t) ≡ count_of same st own t - one (counts same st own a (held_state same a t))
         struck st = omega (arith, count-strike st own test a t e)
+
   -- one less and one more
   pub lamps_put : (test : Test same) (own : A) (k : Member A) (t : List (Member A)) → listed same k.addr t ≡ true
       → lamps_of same own (put same k t) ≡ more (less (lamps_of same own t) ((light_of same) own k.addr (held_state same k.addr t))) ((light_of same) own k.addr k.state)
@@ -112,6 +113,7 @@ module _ {A : Type 0} (same : A → A → Bool) where
       moved : (st : State) → count_of same st own (put same k t)
           ≡ count_of same st own t - one (counts same st own k.addr (held_state same k.addr t)) + one (counts same st own k.addr k.state)
       moved st = omega (arith, count-put st own test k t e, count-strike st own test k.addr t e)
+
 -- the test of three counts
 pub lamps_eq : (l k : Lamps) → same_lamps l k ≡ true → l ≡ k
 lamps_eq l k e =

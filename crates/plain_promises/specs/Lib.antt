@@ -1,4 +1,3 @@
-pub mod Updated
 pub mod Ended
 pub mod EndedMet
 pub mod SoundNode

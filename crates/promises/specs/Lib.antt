@@ -1,14 +1,10 @@
-pub mod Unique
 pub mod Replies
 pub mod Firsts
 pub mod Reads
 pub mod Stops
-pub mod Stopping
 pub mod Records
 pub mod Given
-pub mod Plainly
 pub mod Exactly
-pub mod Table
 pub mod Letters
 pub mod Made
 pub mod Refused

@@ -1,5 +1,4 @@
 pub mod Conditions
-pub mod Sole
 pub mod Acts
 pub mod Explained
 pub mod Told

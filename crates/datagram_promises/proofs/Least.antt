@@ -47,7 +47,8 @@ use Rattle.incoming.specs.declared.Decoded.TheVariants as decoded
 use Rattle.incoming.specs.Datagram.{Message, unsent, resumed, message_step, action_of, judge_made, judge_from, judge_of, finish, decode}
 use Rattle.incoming.specs.Encode.{other_bytes, gossip_fields, fields_of, encode}
 use Rattle.datagram_promises.specs.Lengths.{Octets, long}
-use Rattle.datagram_promises.specs.Growth.{enclosed, delimited_takes, enclosed-more, enclosed-sum, Takes, same_read, not_stopped, then_read, Grows, walk_grows, content_grows}
+use Rattle.datagram_promises.specs.Growth.{enclosed, Takes, Grows}
+use Rattle.datagram_promises.proofs.Growth.{delimited_takes, enclosed-more, enclosed-sum, same_read, not_stopped, then_read, walk_grows, content_grows}
 
 -- a choice that was read, by its test
 picked : {B S : Type 0} (u : Bool) (x y : Read S) (s : S) → pick u x y ≡ read s → (u ≡ true → x ≡ read s → B) → (u ≡ false → y ≡ read s → B) → B

@@ -33,13 +33,15 @@ use Rattle.wait.specs.Views.{to_wait}
 use Rattle.swim.specs.declared.Outcome.{Outcome}
 use Rattle.swim.specs.Promises.{room, outcome_of, Adds, Receives, Steps, EndsTimer}
 use Rattle.swim.specs.Lookups.{handed}
-use Rattle.promises.specs.Firsts.{FirstFails, Passed, first-among}
+use Rattle.promises.specs.Firsts.{FirstFails, Passed}
+use Rattle.promises.proofs.Firsts.{first-among}
 use Rattle.promises.specs.Stops.{step_stops, StopsAt, AdmissionStops, MessageStops, StepTimersFull, StepHeapFull, StepDrawsShort, Removes, Refutes, IsGone, Over, over_none}
-use Rattle.promises.specs.Stopping.{end_among, step-among}
-use Rattle.promises.specs.Records.{message-among, tells_record, tells_sender}
-use Rattle.promises.specs.Given.{OneOf, numbers, add-table, message-table, message_cause, step-table, timer_table, timer_refutes, timer_finds_gone, add_no_cause, step_no_cause, timer_no_cause}
-use Rattle.promises.specs.Plainly.{add-full, add-short, end_full, end_refuted, end_gone, step-timers_full, step-heap_full, step_draws-short}
-use Rattle.promises.specs.Exactly.{as_told}
+use Rattle.promises.proofs.Stopping.{end_among, step-among}
+use Rattle.promises.proofs.Records.{message-among, tells_record, tells_sender}
+use Rattle.promises.specs.Given.{OneOf}
+use Rattle.promises.proofs.Given.{numbers, add-table, message-table, message_cause, step-table, timer_table, timer_refutes, timer_finds_gone, add_no_cause, step_no_cause, timer_no_cause}
+use Rattle.promises.proofs.Plainly.{add-full, add-short, end_full, end_refuted, end_gone, step-timers_full, step-heap_full, step_draws-short}
+use Rattle.promises.proofs.Exactly.{as_told}
 
 -- tests, a condition and a list of tests, which is said in plain words
 plainly : {G T P F W : Type 0} → G ↔ (T × (P × F)) → F ↔ W → G ↔ (T × P × W)

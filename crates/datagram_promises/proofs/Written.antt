@@ -37,8 +37,9 @@ use Rattle.incoming.specs.Datagram.{Decode, unsent, action_of, judge_made, judge
 use Rattle.incoming.specs.Encode.{other_bytes, gossip_fields, fields_of, encode}
 use Rattle.incoming.specs.Back.{Fit, Fits, none, more, FitOther, FitAction, Says, gossips_short, fields-short}
 use Rattle.datagram.specs.Promises.{Reads, reading_number}
-use Rattle.datagram_promises.specs.Exactly.{read_4}
-use Rattle.datagram_promises.specs.AnyLength.{EventSays, event_end, event-from, event-subject, event-number, GossipSays, gossip_end, gossip_anew, ActionSays, action_end, action_from, action_other, action_record, with_record, DatagramSays, datagram_end, datagram_anew, spelled}
+use Rattle.datagram_promises.proofs.Exactly.{read_4}
+use Rattle.datagram_promises.specs.AnyLength.{EventSays, event_end, GossipSays, gossip_end, ActionSays, action_end, with_record, DatagramSays, datagram_end}
+use Rattle.datagram_promises.proofs.AnyLength.{event-from, event-subject, event-number, gossip_anew, action_from, action_other, action_record, datagram_anew, spelled}
 
 -- ---- an event
 abbrev said_of : Addr → Addr → ℕ → Said

@@ -1,19 +1,16 @@
 -- A creation or a restart that a C program made and that was kept is a beginning: with the runs, whatever holds of every history holds of a C host.
 -- Assumes nothing.
 use Rattle.std.specs.Prelude.{◌≡◌, refl, List, ℕ}
-use Rattle.std.proofs.Common.{ap, sym, ◌∙◌, subst}
-use Rattle.model.specs.declared.Reply.{Reply}
+use Rattle.std.proofs.Common.{sym, ◌∙◌, subst}
 use Rattle.model.specs.declared.Reply.TheVariants as reply
 use Rattle.model.specs.Calls as calls
 use Rattle.address.specs.Here.{Addr, here}
 use Rattle.history.specs.Beginnings.{Creation}
 use Rattle.node.specs.declared.Node.{Node}
-use Rattle.node.specs.declared.Answer.{Answer}
 use Rattle.node.specs.Views.{created_of}
 use Rattle.wait.specs.declared.Wait.{Wait}
 use Rattle.wait.specs.Views.{fresh_wait}
 use Rattle.image.specs.Versions.{versions}
-use Rattle.saving.specs.declared.Restored.{Restored}
 use Rattle.saving.specs.Saving.{restore}
 use Rattle.saving.specs.Views.{restored_of}
 use Rattle.promises.specs.Made.{Accepted}
@@ -21,7 +18,7 @@ use Rattle.promises.specs.Begun.{Begun, created, restored, restart_of}
 use Rattle.cwords.specs.Reading.{Rows, settings_of, address_in, wait_of, node_of}
 use Rattle.cwords.specs.Writing.{code_of}
 use Rattle.cwords.specs.Nowhere.{zero_kept}
-use Rattle.cwords.specs.Leaving.{kept, kept_so}
+use Rattle.cwords.specs.Leaving.{kept_so}
 use Rattle.host.specs.Promised as host
 use Rattle.host.specs.Promised.{created_at}
 use Rattle.hostbytes.specs.Promised as hostbytes

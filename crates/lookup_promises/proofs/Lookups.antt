@@ -1,7 +1,7 @@
 -- WHAT A COLLECTOR SEES. A lookup of a sound node says of an address what the node's list says of it; and after every run of calls it is listed exactly if the ledger has one entry more of it than departures.
 -- Assumes nothing.
 use Rattle.std.specs.Prelude.{◌≡◌, refl, Bool, false, not, List, [], ◌∷◌, ℕ, ◌+◌, ◌≤◌, ◌<◌, ltb, length, get_or}
-use Rattle.std.proofs.Common.{ap, sym, ◌∙◌, arith, lt-ltb, le-ltb}
+use Rattle.std.proofs.Common.{◌∙◌, arith, lt-ltb, le-ltb}
 use Rattle.std.proofs.Math.Bool.{true}
 use Rattle.model.specs.declared.Refusal.TheVariants.{Unsound, AddressRange}
 use Rattle.model.specs.Rows.{pick, one}
@@ -24,7 +24,8 @@ use Rattle.swim.specs.declared.lookup.Tally.TheVariants as tally
 use Rattle.swim.specs.Lookups.{look_up, how_many, member_at, listed_as}
 use Rattle.promises.specs.Begun.{Begun}
 use Rattle.promises.specs.Runs.{Runs}
-use Rattle.promises.specs.Demand3.{ledger, counted, stays-sound}
+use Rattle.promises.specs.Demand3.{ledger}
+use Rattle.promises.proofs.Demand3.{counted, stays-sound}
 
 module _ (node : Node) (is_sound : sound here (stored_view node) ≡ true) where
   -- how many are listed

@@ -1,6 +1,6 @@
 -- THE REASONS ARE EXHAUSTIVE AND EXCLUDE EACH OTHER: of every event, on every list and with every D, exactly one condition holds.
 -- Assumes nothing.
-use Rattle.std.specs.Prelude.{◌≡◌, Bool, not, ◌&&◌, List, ℕ, ◌+◌, max, ◌≤◌, ◌<◌, eqb, ltb, leb}
+use Rattle.std.specs.Prelude.{◌≡◌, Bool, List, ℕ, ◌+◌, max, ◌≤◌, ◌<◌, eqb, ltb, leb}
 use Rattle.std.proofs.Math.Path.{refl}
 use Rattle.std.proofs.Common.{sym, ◌∙◌, arith}
 use Rattle.std.proofs.Math.Bool.{true, false}
@@ -13,7 +13,7 @@ use Rattle.laws_rules.specs.Judged.{pick_case}
 use Rattle.promises.specs.Stops.{plus_one_or0}
 use Rattle.why.specs.declared.Reason.{Reason}
 use Rattle.why.specs.declared.Reason.TheVariants as reason
-use Rattle.why_promises.specs.Conditions.{RaisedBy, greater, AsItCame, no_death, no_greater, held_at, state_at, IsNone, no_event, IsOwn, own-suspected, IsUnknown, unknown_recovered, unknown_suspected, unknown_deceased, IsEqual, equal_suspected, IsLow, low_joined, low_recovered, low_suspected, low_deceased, HighEnough, new-joined, higher_joined, higher_recovered, alive-suspected, other_suspected, no_lower-deceased, IsRaised, raised-joined, IsAccepted, accepted_joined, accepted_recovered, accepted_suspected, accepted_deceased, Holds}
+use Rattle.why_promises.specs.Conditions.{RaisedBy, greater, AsItCame, no_death, no_greater, held_at, state_at, no_event, own-suspected, unknown_recovered, unknown_suspected, unknown_deceased, equal_suspected, low_joined, low_recovered, low_suspected, low_deceased, HighEnough, new-joined, higher_joined, higher_recovered, alive-suspected, other_suspected, no_lower-deceased, raised-joined, accepted_joined, accepted_recovered, accepted_suspected, accepted_deceased, Holds}
 
 raised_test : (d : Option ℕ) (n : ℕ) → RaisedBy d n → ltb n (plus_one_or0 d) ≡ true
 raised_test _ n (greater {d = d} h) = lt-ltb n (d + 1) h

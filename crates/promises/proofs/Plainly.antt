@@ -17,7 +17,8 @@ use Rattle.model.specs.Words.{Address, is_alive, Timer, WaitState, SendingPing, 
 use Rattle.model.specs.Node.{Node, state_of, numbered}
 use Rattle.model.specs.Detector.{fate_of}
 use Rattle.laws_rules.specs.Judged.{Fated, fated_leaves, fated_alive, fated_greater, fated_absent, fated}
-use Rattle.promises.specs.Firsts.{FirstFails, fails, passes, first-among}
+use Rattle.promises.specs.Firsts.{FirstFails, fails, passes}
+use Rattle.promises.proofs.Firsts.{first-among}
 use Rattle.promises.specs.Stops.{add_stops, step_stops, end_stops, StepTimersFull, StepHeapFull, StepDrawsShort, Removes, Refutes, IsGone}
 
 other : {C : Type 0} {r x : Refusal} → r ≡ x → (number_of r ≡ number_of x → ⊥) → C

@@ -20,18 +20,20 @@ use Rattle.model.specs.Rows.{pick, is_empty, remove_at}
 use Rattle.laws.specs.Bools.{none-some}
 use Rattle.model.specs.Bounds.{last_number}
 use Rattle.model.specs.Answers.{Answer, done, refused, and_then, when, draw, full_of}
-use Rattle.model.specs.Words.{Address, is_alive, parts_of, Event, Suspected, Deceased, Gossip, Timer, WaitState, SendingPing, WaitingForPingAck, SendingPingReq, WaitingForPingReqAck, Declaring}
+use Rattle.model.specs.Words.{Address, is_alive, parts_of, Event, Suspected, Gossip, Timer, WaitState, SendingPing, WaitingForPingAck, SendingPingReq, WaitingForPingReqAck, Declaring}
 use Rattle.model.specs.Members as list
 use Rattle.model.specs.Node as M
-use Rattle.model.specs.Node.{Node, lists, numbered, state_of, held_death}
+use Rattle.model.specs.Node.{Node, numbered, state_of, held_death}
 use Rattle.model.specs.Collect.{is_old, collects}
 use Rattle.laws_choose.specs.Collecting.{cleared-length}
 use Rattle.model.specs.Handler as handler
 use Rattle.laws_rules.specs.Judged.{Believed, of_alive, of_other, Judged, skipped, joined_at_end, joined_low, joined_raises, joined-enters, recovered_unknown, recovered_low, recovered_recovers, own-at_end, own_refutes, suspected_unknown, suspected_equal, suspected_low, suspected_suspects, deceased_unknown, deceased_low, deceased_buries, judged, SenderJudged, listed_already, sender_at_end, sender_enters, sender_judged}
 use Rattle.model.specs.Detector as D
 use Rattle.model.specs.Calls as calls
-use Rattle.promises.specs.Firsts.{FirstFails, Among, fails, Refuses, halts, goes, exactly, untested, tested, then}
-use Rattle.promises.specs.Reads.{pick_reads, pick_reading, reading_refuses}
+use Rattle.promises.specs.Firsts.{FirstFails, Among, fails, Refuses, halts, goes}
+use Rattle.promises.proofs.Firsts.{exactly, untested, tested, then}
+use Rattle.promises.specs.Reads.{pick_reads}
+use Rattle.promises.proofs.Reads.{pick_reading, reading_refuses}
 use Rattle.promises.specs.Stops.{plus_one_or0, at_end, nothing_wanted, list_full, held_in, heap_full, timers_full, add_stops, wants_stops, end_stops, item_stops, admit_stops, ping_reads, group_reads, step_stops}
 
 plus_some : (n m : ℕ) → M.one_added n ≡ some m → (leb last_number n ≡ false) × (n + 1 ≡ m)

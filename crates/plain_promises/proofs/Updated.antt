@@ -1,6 +1,6 @@
 -- "KEEP THE LARGER OF THE HELD AND THE GIVEN NUMBER, AND STILL TAKE THE GIVEN STATE", in these words, of an update at every use.
 -- Assumes nothing.
-use Rattle.std.specs.Prelude.{◌≡◌, true, false, ℕ, max}
+use Rattle.std.specs.Prelude.{◌≡◌, true, false, max}
 use Rattle.model.specs.Words.{Member}
 use Rattle.model.specs.Members.{Members, listed, held, held_state, update}
 use Rattle.laws_list.specs.Updates.{updated_says, updated_other}

@@ -1,0 +1,4 @@
+-- The theorems, each in the file of the definitions that it is about.
+pub mod Begins
+pub mod Runs
+pub mod Letters

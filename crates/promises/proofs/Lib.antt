@@ -1,0 +1,21 @@
+-- The theorems, each in the file of the definitions that it is about.
+pub mod Unique
+pub mod Replies
+pub mod Firsts
+pub mod Reads
+pub mod Stopping
+pub mod Records
+pub mod Given
+pub mod Plainly
+pub mod Exactly
+pub mod Table
+pub mod Letters
+pub mod Refused
+pub mod Runs
+pub mod Exists
+pub mod Panel
+pub mod Begun
+pub mod Demand3
+pub mod Collects
+pub mod Remembered
+pub mod Probed

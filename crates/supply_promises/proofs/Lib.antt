@@ -1,0 +1,3 @@
+-- The theorems, each in the file of the definitions that it is about.
+pub mod Hosts
+pub mod Relief
