@@ -1,13 +1,13 @@
 -- Behind the records of a message its sender comes in, if it is to.
 -- Assumes nothing.
-use Rattle.std.specs.Prelude.{◌≡◌, refl, Bool, true, false, List, [], ◌∷◌, ◌++◌, ℕ, ◌+◌, ◌-◌, ◌≤◌, ◌<◌, length, take, drop}
-use Rattle.std.proofs.Common.{ap, sym, ◌∙◌, append-nil, append_assoc, arith, length-append, length-drop}
+use Rattle.std.specs.Prelude.{◌≡◌, refl, true, false, List, [], ◌∷◌, ◌++◌, ℕ, ◌-◌, ◌≤◌, ◌<◌, length, take, drop}
+use Rattle.std.proofs.Common.{ap, sym, ◌∙◌, append-nil, append_assoc, arith, length-drop}
 use Rattle.std.proofs.Math.Option.{Option, none, some}
 use Rattle.std.proofs.lemmas.List.{length-replicate}
 use Rattle.model.specs.declared.Refusal.{Refusal}
 use Rattle.model.specs.declared.Drew.TheVariants.{Used, Refused}
 use Rattle.model.specs.Rows.{one}
-use Rattle.model.specs.Answers.{Answer, done, refused, and_then}
+use Rattle.model.specs.Answers.{Answer, done, refused}
 use Rattle.laws.specs.After as laws-after
 use Rattle.laws.specs.After.{After, gives, halts}
 use Rattle.laws_list.specs.Draws.{Leaves, leaves, leaves_all, leaves_then}
@@ -18,11 +18,9 @@ use Rattle.model.specs.Words as W
 use Rattle.model.specs.Node as M
 use Rattle.model.specs.Calls as calls
 use Rattle.model.specs.Handler as handler
-use Rattle.history.specs.Moments.{Told, Sender, Moment, moment_of, moment, trace_then, trace_gossip, trace_message}
+use Rattle.history.specs.Moments.{Told, Sender, Moment, moment_of, moment, trace_then, trace_gossip}
 use Rattle.history.proofs.Rules.{admit_did}
 use Rattle.types.specs.declared.Gossip.{Gossip}
-use Rattle.types.specs.declared.Optional.{Optional}
-use Rattle.types.specs.declared.Optional.TheVariants.{Given}
 use Rattle.types.specs.Views.{to_optional, no_gossip}
 use Rattle.node.specs.declared.Node.{Node}
 use Rattle.node.specs.Views.{view_node, pack_node}

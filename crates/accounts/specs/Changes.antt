@@ -1,6 +1,6 @@
 -- What a moment did to the list, in the ledger's own words; "listed" is that of the replay's node before it.
 -- Assumes nothing.
-use Rattle.std.specs.Prelude.{Bool, true, false, not, ◌&&◌, List, [], ◌∷◌, ◌++◌, ℕ, ◌+◌, length}
+use Rattle.std.specs.Prelude.{false, not, ◌&&◌, List, [], ◌∷◌, ◌++◌, ℕ, ◌+◌, length}
 use Rattle.model.specs.declared.State.TheVariants.{Alive}
 use Rattle.model.specs.Rows.{one, pad_to}
 use Rattle.address.specs.Here.{Addr, here}

@@ -2,29 +2,24 @@
 -- Assumes nothing.
 use Rattle.std.proofs.Math.Path.{◌≡◌, refl, ap}
 use Rattle.std.proofs.Common.{sym, ◌∙◌, arith}
-use Rattle.std.specs.Prelude.{Bool, not, ℕ, ◌-◌, ◌<◌}
+use Rattle.std.specs.Prelude.{ℕ}
 use Rattle.std.proofs.Math.Bool.{true, false}
 use mathlib.Core.List.{List, [], ◌∷◌, ◌++◌}
-use Rattle.std.proofs.Math.Option.{Option, none, some}
 use borrow.Author.Tests.{not-false}
-use Rattle.model.specs.declared.Refusal.{Refusal}
-use Rattle.model.specs.declared.Reply.{Reply}
 use Rattle.model.specs.Rows.{one}
 use Rattle.model.specs.Answers.{Answer, done, refused, and_then}
 use Rattle.laws.specs.After.{After, gives}
 use Rattle.address.specs.Here.{Addr, here, here_lawful}
-use Rattle.model.specs.Words as W
 use Rattle.model.specs.Members as list
 use Rattle.model.specs.Node as M
 use Rattle.model.specs.Sound.{sound}
 use Rattle.model.specs.Calls as calls
 use Rattle.laws_node.specs.Good.{Good, FullRows, sound_good, stored_loaded}
 use Rattle.laws_rules.specs.Keeps.{Keeps, add-keeps}
-use Rattle.history.specs.Moments.{Deed, Added, Ended, Moment, moment_of, moment, silent, trace_add}
+use Rattle.history.specs.Moments.{Deed, Added, Moment, moment_of, moment, silent, trace_add}
 use Rattle.history.specs.Ledger.{carried}
 use Rattle.history.specs.Did.{Did}
 use Rattle.history.proofs.Rules.{add_did, already_did}
-use Rattle.history.specs.Worlds.{Passed}
 use Rattle.history.proofs.Worlds.{first_cases}
 use Rattle.history.specs.Histories.{Add, moments_by, moments}
 use Rattle.node.specs.declared.Node.{Node}

@@ -2,7 +2,7 @@
 -- Assumes nothing.
 use Rattle.std.proofs.Math.Path.{◌≡◌, refl, ap, sym, subst}
 use Rattle.std.proofs.Common.{◌∙◌, arith, get_or-take}
-use Rattle.std.specs.Prelude.{Bool, List, [], ◌∷◌, ℕ, ◌<◌, length, take}
+use Rattle.std.specs.Prelude.{List, [], ℕ, ◌<◌, take}
 use Rattle.std.proofs.Math.Bool.{true, false}
 use Rattle.std.proofs.Math.Option.{Option, none, some}
 use Rattle.std.proofs.Math.ListN.{get_or, get_or-map}
@@ -23,12 +23,11 @@ use Rattle.model.specs.Calls as calls
 use Rattle.laws_node.specs.Good.{Good, FullRows, sound_good}
 use Rattle.laws_rules.specs.Keeps.{Keeps}
 use Rattle.laws_rules.specs.KeepsCalls.{end_keeps, first_over_in}
-use Rattle.history.specs.Moments.{Moment, moment, moment_of, ended_deed}
+use Rattle.history.specs.Moments.{Moment, moment, ended_deed}
 use Rattle.history.specs.Did.{Did}
 use Rattle.history.proofs.Rules.{timer_did}
 use Rattle.history.proofs.Worlds.{first_cases}
 use Rattle.history.specs.Histories.{Timer, ending_at, moments_by, moments}
-use Rattle.timers.specs.declared.Timers.{Timers}
 use Rattle.timers.specs.declared.Ending.TheVariants.{Nothing, At}
 use Rattle.timers.specs.Views.{to_timer, from_timer, no_timer, timers_view, ending_of}
 use Rattle.node.specs.declared.Node.{Node}

@@ -1,13 +1,12 @@
 -- One rule of a message, run by itself on the rows: what it leaves, and that it is the moment's change.
 -- Assumes nothing.
-use Rattle.std.specs.Prelude.{◌≡◌, refl, Bool, true, false, not, ◌&&◌, List, [], ◌∷◌, ◌++◌, ℕ, ◌+◌, ◌-◌, ◌≤◌, ◌<◌, length, set, replicate}
+use Rattle.std.specs.Prelude.{◌≡◌, refl, Bool, true, false, not, ◌&&◌, List, ℕ, ◌+◌, ◌-◌, length, set, replicate}
 use Rattle.std.proofs.Math.Path.{ap}
-use Rattle.std.proofs.Common.{sym, ◌∙◌, append-nil, arith}
+use Rattle.std.proofs.Common.{◌∙◌}
 use Rattle.std.proofs.Math.Option.{Option, none, some}
 use Rattle.model.specs.declared.Drew.TheVariants.{Used, Refused}
-use Rattle.model.specs.Answers.{Answer, done, refused, and_then}
+use Rattle.model.specs.Answers.{Answer, done, refused}
 use Rattle.address.specs.Here.{Addr, here, here_lawful}
-use Rattle.model.specs.Words as W
 use Rattle.model.specs.Node as M
 use Rattle.model.specs.Handler as handler
 use Rattle.model.specs.Calls as calls
@@ -31,7 +30,7 @@ use Rattle.message.specs.Views.{records_of, sender_rule, Heeded, heard_of}
 use Rattle.accounts.specs.declared.Change.{Change}
 use Rattle.accounts.specs.declared.Account.{Account}
 use Rattle.accounts.specs.declared.Turn.{Turn}
-use Rattle.accounts.specs.Changes.{whom, change_of, between, no_change, account_of}
+use Rattle.accounts.specs.Changes.{whom, change_of, between}
 
 abbrev pub only_record : Gossip → Lent
 only_record g = record { rows = replicate 64 g; given = 1; sender = Absent }

@@ -11,7 +11,7 @@ use Rattle.model.specs.declared.Refusal.{Refusal}
 use Rattle.model.specs.declared.Drew.{Drew}
 use Rattle.model.specs.declared.Drew.TheVariants.{Used, Refused}
 use Rattle.model.specs.Rows.{pad_to, every}
-use Rattle.model.specs.Answers.{Answer, done, refused, and_then}
+use Rattle.model.specs.Answers.{Answer, done, refused}
 use Rattle.laws.specs.Pad.{pad_step}
 use Rattle.laws.specs.After as laws-after
 use Rattle.laws.specs.Bools.{and_split, and_join}
