@@ -23,7 +23,7 @@ use Rattle.numbers.specs.Numbers.{number_of}
 use Rattle.numbers.specs.Codec.{many-count}
 use Rattle.image.specs.Image.{Entry, Image, head, entry, layout, own_in, entries_in, position_in, addr_in, member_of, saved_of, state_in_rule, address_in_rule, marked, counted, sized, fields, in_rule}
 use Rattle.image.specs.Forms.{alike, needs_wide, wide_of, form_in, in_version}
-use Rattle.image.specs.Round.{entries_valid}
+use Rattle.image.proofs.Round.{entries_valid}
 use Rattle.image.specs.Versions.{v2, versions, version}
 use Rattle.image.specs.Views.{addresses_of, place_standing, read_member, rows_of, opening_of, rows_in_rule, judged_of, nothing, list_of, loaded_of}
 use Rattle.image.specs.declared.Verdict.{Verdict}

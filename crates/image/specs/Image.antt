@@ -2,23 +2,18 @@
 -- state (0 Alive, 1 Pending, 2 Suspected) and 8 of number, then the position in one byte. Numbers have the high byte first." The layout stands here once, for any type of address
 -- and its bytes, which is all that another version changes; what a list's image is, what is read from bytes, and which fields are in rule.
 -- Assumes nothing.
-use Rattle.std.specs.Prelude.{◌≡◌, refl, Bool, ◌&&◌, List, [], ◌∷◌, map, ℕ, ◌+◌, ◌*◌, length, eqb, leb}
+use Rattle.std.specs.Prelude.{Bool, ◌&&◌, List, [], map, ℕ, ◌+◌, ◌*◌, length, eqb, leb}
 use Rattle.model.specs.declared.State.{State}
 use Rattle.model.specs.declared.State.TheVariants.{Alive, Pending, Suspected}
 use Rattle.model.specs.Rows.{pick, every}
 use Rattle.model.specs.Bounds.{list_places}
 use Rattle.model.specs.Words.{Address, Member}
 use Rattle.model.specs.Sound.{distinct, positioned}
-use Rattle.numbers.specs.Numbers.{big_endian}
 use Rattle.numbers.specs.Codec.{Codec, number, And, both, many}
 
 -- "the mark MBR", as the number that its three bytes say
 abbrev pub mark : ℕ
 mark = 5063250
-
-pub mark-bytes : big_endian 3 mark ≡ 77 ∷ 66 ∷ 82 ∷ []
-unfolding big_endian
-mark-bytes = refl
 
 -- a version: its number, and the bytes of an address
 pub record Form (A : Type 0) : Type 0 where

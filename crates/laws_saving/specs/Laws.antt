@@ -26,8 +26,10 @@ use Rattle.history.proofs.Worlds.{first_good}
 use Rattle.numbers.specs.Numbers.{Bytes}
 use Rattle.image.specs.Image.{addr_in, own_in, entries_in, position_in, member_of, Saved, marked, sized, state_in_rule, address_in_rule, in_rule}
 use Rattle.image.specs.Forms.{Forms, image_of, form_in, fields_in, said_by, in_version, Sure}
-use Rattle.image.specs.Round.{entries_valid, members-addrs, Numbered, Savable}
-use Rattle.image.specs.Chosen.{Tells, image-told}
+use Rattle.image.specs.Round.{Numbered, Savable}
+use Rattle.image.proofs.Round.{entries_valid, members-addrs}
+use Rattle.image.specs.Chosen.{Tells}
+use Rattle.image.proofs.Chosen.{image-told}
 use Rattle.saving.specs.Saving.{record_of, stands_in_order, saved_list, restored_node, restore}
 
 -- what a list that is told by its records says, and what its records in probing order say

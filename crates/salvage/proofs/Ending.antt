@@ -22,7 +22,7 @@ use Rattle.image.specs.declared.Written.{Written}
 use Rattle.image.specs.declared.Written.TheVariants as written
 use Rattle.salvage.specs.Salvage.{salvaged, not_salvaged, Salvage, from, places, kept, position_of, left, headed, salvage, kept_of}
 use Rattle.salvage.specs.Salvage as S
-use Rattle.salvage.specs.Rule.{words-many}
+use Rattle.salvage.proofs.Rule.{words-many}
 use Rattle.salvage.specs.Views.{row_of_words, Sifts, not_done, ending_of, salvage_of, Salvages}
 use Rattle.salvage.specs.declared.Sifted.{Sifted}
 use Rattle.salvage.specs.declared.Ends.TheVariants as ends

@@ -1,3 +1,5 @@
 pub mod Judging
 pub mod Sifting
 pub mod Ending
+pub mod Rule
+pub mod Laws

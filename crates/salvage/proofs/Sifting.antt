@@ -17,7 +17,7 @@ use Rattle.image.specs.Image.{Form, Entry, head, entry, addr_in, state_of}
 use Rattle.image.specs.Views.{place_of, entry_in, read_member}
 use Rattle.image.specs.declared.Place.{Place}
 use Rattle.salvage.specs.Salvage.{after, from, stands_at, verdict, word_of, kept_of, word_at, words_of}
-use Rattle.salvage.specs.Rule.{map_snoc, words-many}
+use Rattle.salvage.proofs.Rule.{map_snoc, words-many}
 use Rattle.salvage.specs.Views.{said, row_of_words, no_place, seen_of, more_of, Sifts}
 use Rattle.salvage.specs.declared.Word.{Word}
 use Rattle.salvage.specs.declared.Word.TheVariants as word

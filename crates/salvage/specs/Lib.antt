@@ -1,4 +1,3 @@
 pub mod Salvage
 pub mod Views
 pub mod Rule
-pub mod Laws

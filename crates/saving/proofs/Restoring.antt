@@ -28,7 +28,7 @@ use Rattle.node.specs.Views.{plain_answer, pack_node, created_of}
 use Rattle.node.specs.Rows.{unstored_pack}
 use Rattle.image.specs.Image.{Entry, Image, addr_in, member_of, own_in, entries_in, position_in, saved_of, marked, sized, in_rule}
 use Rattle.image.specs.Forms.{form_in, fields_in, in_version}
-use Rattle.image.specs.Round.{members-addrs}
+use Rattle.image.proofs.Round.{members-addrs}
 use Rattle.image.specs.Versions.{versions}
 use Rattle.image.specs.Views.{read_member, rows_of, nothing, list_of, loaded_of}
 use Rattle.image.specs.declared.Loaded.{Loaded}

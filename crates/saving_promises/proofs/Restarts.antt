@@ -31,8 +31,9 @@ use Rattle.numbers.specs.Codec.{number}
 use Rattle.image.specs.Image.{opening, Saved, marked}
 use Rattle.image.specs.Forms.{wide_of, image_of, said_by}
 use Rattle.image.specs.Round.{Savable}
-use Rattle.image.specs.Chosen.{image-opens, tells-image, image-tells}
-use Rattle.image.specs.Versions.{v1, v2, versions, version, sure}
+use Rattle.image.proofs.Chosen.{image-opens, tells-image, image-tells}
+use Rattle.image.specs.Versions.{v1, v2, versions, version}
+use Rattle.image.proofs.Versions.{sure}
 use Rattle.saving.specs.Saving.{Save, saved, not_saved, saved_list, restored_node, save, restore}
 use Rattle.saving.specs.Views.{ending_of, Saves, restored_as, restored_of}
 use Rattle.laws_saving.specs.Laws.{savable, listed_same, state_same, number_same, order_same, accepted, restores, restored_good, saved_again}

@@ -24,15 +24,17 @@ use Rattle.numbers.specs.Numbers.{Bytes}
 use Rattle.image.specs.Image.{Form, Saved, marked, counted}
 use Rattle.image.specs.Forms.{wide_of, form_in, said_by}
 use Rattle.image.specs.Chosen.{Tells}
-use Rattle.image.specs.Versions.{v2, versions, sure}
+use Rattle.image.specs.Versions.{v2, versions}
+use Rattle.image.proofs.Versions.{sure}
 use Rattle.saving.specs.Saving.{restored_node, restore}
 use Rattle.saving.specs.Views.{restored_as, restored_of}
 use Rattle.laws_saving.specs.Laws.{restores}
 use Rattle.saving.specs.declared.Restored.{Restored}
 use Rattle.salvage.specs.Salvage.{Salvage, salvaged, not_salvaged, word_at, places, left_of, result, headed, salvage_tests, salvage}
 use Rattle.salvage.specs.Salvage as S
-use Rattle.salvage.specs.Rule.{Rule, exactly, words-many, word-of}
-use Rattle.salvage.specs.Laws.{words_same, headed-there, result_is, result-tells, result-opens, result-same}
+use Rattle.salvage.specs.Rule.{Rule}
+use Rattle.salvage.proofs.Rule.{exactly, words-many, word-of}
+use Rattle.salvage.proofs.Laws.{words_same, headed-there, result_is, result-tells, result-opens, result-same}
 use Rattle.salvage.specs.Views.{said, row_of_words, not_done, ending_of, Salvages}
 use Rattle.salvage.specs.declared.Word.{Word}
 use Rattle.salvage.specs.declared.Word.TheVariants as word

@@ -21,7 +21,7 @@ use Rattle.saving.specs.Views.{restored_of}
 use Rattle.saving.specs.declared.Restored.{Restored}
 use Rattle.salvage.specs.Salvage.{after, stands_at, kept_of, word_at, places, kept, position_of, left, left_of}
 use Rattle.salvage.specs.Salvage as S
-use Rattle.salvage.specs.Rule.{map_snoc, words-many, word-of}
+use Rattle.salvage.proofs.Rule.{map_snoc, words-many, word-of}
 use Rattle.salvage.specs.Views.{said, Salvages}
 use Rattle.salvage.specs.declared.Word.{Word}
 use Rattle.salvage.specs.declared.Word.TheVariants as word

@@ -1,13 +1,12 @@
 -- What is chosen for a message: the sizes of its gossip add up to `max_size` at most.
 -- Assumes nothing.
-use Rattle.std.specs.Prelude.{◌≡◌, refl, true, ◌&&◌, List, [], ◌∷◌, ◌++◌, ℕ, ◌+◌, ◌*◌, ◌≤◌, length}
-use Rattle.std.proofs.Common.{ap, sym, ◌∙◌}
+use Rattle.std.specs.Prelude.{◌≡◌, refl, true, ◌&&◌, List, [], ◌∷◌, ◌++◌, ℕ, ◌+◌, ◌≤◌}
 use Rattle.std.proofs.Math.Bool.{Bool}
 use Rattle.std.proofs.Math.Option.{some}
 use native.Mathlib.Omega.{arith}
 use Rattle.std.proofs.Math.Dec.{eqb, leb}
 use borrow.Author.Tests.{eqb-true}
-use Rattle.model.specs.Words.{Address, Gossip, Entry, parts_of}
+use Rattle.model.specs.Words.{Address, Entry, parts_of}
 use Rattle.model.specs.Rows.{every}
 use Rattle.model.specs.Size.{size_of}
 use Rattle.model.specs.Choose.{Terms, Choice, Taken, take_top, after_alive, after_deceased, begin, choose}
@@ -17,7 +16,8 @@ use Rattle.model.specs.declared.Kind.TheVariants as kind
 use Rattle.laws.specs.Bools.{and_split}
 use Rattle.laws_choose.specs.GoodHeap.{GoodHeap}
 use Rattle.laws_choose.specs.ChooseLaws.{Gave, GoodHeaps, taken_good, rounds_keep}
-use Rattle.fits.specs.Sizes.{sizes, sizes-more}
+use Rattle.fits.specs.Sizes.{sizes}
+use Rattle.fits.proofs.Sizes.{sizes-more}
 
 module _ {A : Type 0} (address : Address A) where
   -- a held entry says its gossip's size

@@ -18,11 +18,13 @@ use Rattle.numbers.specs.NumberLaws.{bytes_drop, number_small}
 use Rattle.numbers.specs.Codec.{number, many-count, many-at}
 use Rattle.image.specs.Image.{Form, Entry, head, entry, layout, addr_in, own_in, entries_in, position_in, member_of, Saved, marked, counted, sized, fields, state_in_rule, address_in_rule, in_rule}
 use Rattle.image.specs.Forms.{Forms, wide_of, form_in, image_of, Sure}
-use Rattle.image.specs.Round.{members-addrs, Numbered, Savable, Says}
-use Rattle.image.specs.Chosen.{Tells, image-opens, tells-image, image-told}
+use Rattle.image.specs.Round.{Numbered, Savable, Says}
+use Rattle.image.proofs.Round.{members-addrs}
+use Rattle.image.specs.Chosen.{Tells}
+use Rattle.image.proofs.Chosen.{image-opens, tells-image, image-told}
 use Rattle.salvage.specs.Salvage.{after, from, stands_at, kept_of, word_at, words_of, places, kept, position_of, own_of, left, left_of, result, headed}
 use Rattle.salvage.specs.Salvage as S
-use Rattle.salvage.specs.Rule.{map_snoc, exactly, kept_if, kept_new}
+use Rattle.salvage.proofs.Rule.{map_snoc, exactly, kept_if, kept_new}
 use Rattle.salvage.specs.declared.Word.{Word}
 use Rattle.salvage.specs.declared.Word.TheVariants as word
 
