@@ -1,8 +1,7 @@
 -- WHAT A ROW OF FIELDS SPELLS, WHATEVER THEIR LENGTHS AND SPELLING AND HOWEVER MANY: at each level of the schema a field of a text sets it, so that the last of a repeated one counts; a message of the kind that is held
 -- goes on with it, and one of another kind begins anew; each record is one more; and a field of another number, of any wire type and any length, says nothing.
 -- Assumes nothing.
-use Rattle.std.specs.Prelude.{◌≡◌, List, [], ◌∷◌, ◌++◌, ℕ, ◌+◌, ◌^◌, ◌≤◌, ◌<◌, length}
-use Rattle.std.proofs.Common.{arith}
+use Rattle.std.specs.Prelude.{◌≡◌, List, [], ◌∷◌, ◌++◌, ℕ, ◌^◌, ◌≤◌, ◌<◌, length}
 use Rattle.std.proofs.Math.Bool.{true}
 use Rattle.types.specs.Views.{no_gossip}
 use Rattle.utf8.specs.Utf8.{utf8}

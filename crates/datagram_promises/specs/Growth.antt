@@ -1,9 +1,8 @@
 -- Whatever a message's fields add to what is said, they take no fewer bytes for it: of one field, and of a walk.
 -- Assumes nothing.
 use Rattle.std.proofs.Math.Path.{◌≡◌}
-use mathlib.Core.List.{List, []}
+use mathlib.Core.List.{List}
 use Prim.Native.Nat.{ℕ, ◌+◌, ◌-◌, ◌≤◌}
-use native.Mathlib.Omega.{arith}
 use Rattle.std.proofs.Math.ListN.{length}
 use Rattle.fields.specs.declared.Field.{Field}
 use Rattle.fields.specs.FieldLaws.{Lies}

@@ -1,7 +1,6 @@
 -- How many bytes a varint takes, and that one that was read took no fewer.
 -- Assumes nothing.
 use Rattle.std.specs.Prelude.{List, [], ◌∷◌, ℕ, ◌<◌, length}
-use Rattle.std.proofs.Common.{arith}
 use Rattle.types.specs.Wire.{varint}
 
 -- bytes as a host lends them: each below 256

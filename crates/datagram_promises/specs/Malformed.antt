@@ -1,7 +1,6 @@
 -- WHERE BYTES ARE MALFORMED. At a field that is not whole or not as the schema has it, which begins within the input; or, if every field is, at the input's length, for what the message lacks.
 -- Assumes nothing.
 use Rattle.std.proofs.Math.Path.{◌≡◌}
-use Rattle.std.proofs.Common.{arith}
 use Rattle.std.proofs.Math.Bool.{true}
 use Rattle.iptext.specs.declared.Text.TheVariants.{Empty, Malformed}
 use Rattle.incoming.specs.Datagram.{Message}

@@ -1,7 +1,6 @@
 -- THE LAST OF A REPEATED TEXT OR NUMBER COUNTS, AND A MESSAGE THAT COMES IN PIECES IS ONE: an action, an event in a record, each read as if it had come once. Of the call.
 -- Assumes nothing.
 use Rattle.std.specs.Prelude.{◌≡◌, List, ℕ}
-use Rattle.std.proofs.Common.{arith}
 use Rattle.types.specs.declared.Action.{Action}
 use Rattle.types.specs.declared.Gossip.{Gossip}
 use Rattle.incoming.specs.declared.Reading.{Reading}

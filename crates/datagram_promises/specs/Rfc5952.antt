@@ -2,7 +2,6 @@
 -- n groups there that are all zero. What `Text6` leaves out is such a run, none is longer, and none of its length starts before it.
 -- Assumes nothing.
 use Rattle.std.specs.Prelude.{◌≡◌, List, [], ◌∷◌, ℕ, zero, suc}
-use Rattle.std.proofs.Common.{arith}
 
 -- n groups from place p on are zero
 abbrev pub Zeros : ℕ → ℕ → List ℕ → Type 0

@@ -1,7 +1,6 @@
 -- A FIELD OF ANOTHER NUMBER IS PASSED OVER, WHATEVER ITS WIRE TYPE AND ITS LENGTH AND WHEREVER IT STANDS: a datagram that is read whole is read the same with it. PIECES OF ONE ACTION, HOWEVER MANY, append their records.
 -- Assumes nothing.
-use Rattle.std.specs.Prelude.{List, [], ◌++◌, ℕ, zero, suc, ◌+◌, ◌^◌, ◌≤◌, ◌<◌, length}
-use Rattle.std.proofs.Common.{arith}
+use Rattle.std.specs.Prelude.{List, [], ◌++◌, ℕ, zero, suc, ◌^◌, ◌≤◌, ◌<◌, length}
 use Rattle.types.specs.declared.Gossip.{Gossip}
 use Rattle.types.specs.Wire.{delimited}
 use Rattle.gossips.specs.declared.Settled.TheVariants as settled

@@ -2,7 +2,6 @@
 -- UTF-8 at both sides of every bound of RFC 3629's table.
 -- Assumes nothing.
 use Rattle.std.specs.Prelude.{List, [], ◌∷◌, ℕ}
-use Rattle.std.proofs.Common.{arith}
 
 -- characters, the first and the last of each row of the table
 abbrev pub taken : List (List ℕ)

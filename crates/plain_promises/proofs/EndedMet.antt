@@ -1,6 +1,6 @@
 -- A time-out that takes nobody out, of each kind: one that finds its address Alive, and one that finds it gone.
 -- Assumes nothing.
-use Rattle.std.specs.Prelude.{refl, List, []}
+use Rattle.std.specs.Prelude.{refl, List}
 use Rattle.model.specs.Words.{parts_of}
 use Rattle.model.specs.Lamps.{lamps_of}
 use Rattle.model.specs.Node.{loaded, stored, quiet}

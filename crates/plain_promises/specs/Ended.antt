@@ -1,7 +1,6 @@
 -- A TIME-OUT THAT TAKES NOBODY OUT, answered "refuted" or "gone": the node is the one handed in without that timer, no event, no letter, the row as lent, no draw.
 -- Assumes nothing.
 use Rattle.std.specs.Prelude.{◌≡◌, ◌⊎◌, List, [], ◌∷◌, ◌++◌, ℕ, ◌+◌, ◌-◌, ◌%◌, ◌^◌, ◌≤◌, ◌<◌}
-use Rattle.std.proofs.Common.{arith}
 use Rattle.model.specs.Words as W
 use Rattle.model.specs.Node as M
 use Rattle.model.specs.Calls as calls

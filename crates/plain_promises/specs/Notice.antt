@@ -1,7 +1,6 @@
 -- WHAT A DEATH NOTICE MAKES THE NODE REPORT OF ITS ADDRESS is at no greater number than its own: of every moment of a message.
 -- Assumes nothing.
-use Rattle.std.specs.Prelude.{[], ℕ, ◌≤◌}
-use Rattle.std.proofs.Common.{arith}
+use Rattle.std.specs.Prelude.{ℕ, ◌≤◌}
 use Rattle.model.specs.Answers.{Answer}
 use Rattle.model.specs.Node as M
 use Rattle.laws.specs.After.{After}

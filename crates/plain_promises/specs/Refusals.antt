@@ -2,7 +2,6 @@
 -- and an address of the inputs is out of range.
 -- Assumes nothing.
 use Rattle.std.specs.Prelude.{◌⊎◌, Bool, List, [], ◌∷◌, ◌++◌, ℕ, ◌≤◌, ◌<◌, length}
-use Rattle.std.proofs.Common.{arith}
 use Rattle.std.proofs.Math.Option.{none, some}
 use Rattle.model.specs.Rows.{every}
 use Rattle.model.specs.Words as W

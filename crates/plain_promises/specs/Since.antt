@@ -1,8 +1,7 @@
 -- "A DEATH NOTICE THAT REMOVES A PEER CARRIES A NUMBER NO LOWER THAN ANY REPORTED FOR IT SINCE IT ENTERED", without the ledger: an event about the peer at k, no entry of it after that, and then a notice
 -- at n that takes it out: k ≤ n. The notice's own report is one of them. Of every run of calls from a created or a restored node, and its moments one after the other.
 -- Assumes nothing.
-use Rattle.std.specs.Prelude.{◌≡◌, true, false, List, [], ℕ, ◌<◌}
-use Rattle.std.proofs.Common.{arith}
+use Rattle.std.specs.Prelude.{◌≡◌, true, false, List, ℕ, ◌<◌}
 use Rattle.model.specs.Words as W
 use Rattle.model.specs.Node as M
 use Rattle.address.specs.Here.{Addr, here}

@@ -2,7 +2,6 @@
 -- takes it out is at 6 too: the bound is reached.
 -- Assumes nothing.
 use Rattle.std.specs.Prelude.{◌≡◌, refl, true, List, [], ◌∷◌, ℕ, get_or}
-use Rattle.std.proofs.Common.{arith}
 use Rattle.std.proofs.Math.Option.{none}
 use Rattle.model.specs.Bounds.{message_room}
 use Rattle.model.specs.Words as W

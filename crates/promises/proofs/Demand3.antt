@@ -58,7 +58,7 @@ targets_are (m ∷ ms) = ap (λ (l : List Addr). m.target ∷ l) (targets_are ms
 
 -- what is known of a call by the rules, as the program sees it
 account : (a own : Addr) (t : Tally) (h : Held) (c : Call Addr) (s : Said) (h' : Held) (w : World Addr) → w ≡ seen h → Made h c s h' → Known here a own t c w → Account a own t h c s h' (moments here c w)
-account a own t h c s h' w e m k =
+account a _ t h c s h' w e m k =
     let v = made_is h c s h' m in
     let start : M.loaded w.node ≡ view_node h.node = (λ i. M.loaded (e i).node) ∙ loaded_view h.node in
     let end : M.loaded (outcome here c w).outcome.node ≡ view_node h'.node = (λ i. M.loaded (outcome here c (e i)).outcome.node) ∙ sym (λ i. M.loaded (v.world i).node) ∙ loaded_view h'.node in

@@ -24,7 +24,8 @@ use Rattle.model.specs.Calls as calls
 use Rattle.model.specs.Calls.{reply_number, first_of}
 use Rattle.promises.specs.Replies.{kind, NotDone}
 use Rattle.promises.proofs.Replies.{cause_apart, already_apart, not_due_apart, same_number, not_zero}
-use Rattle.promises.specs.Firsts.{FirstFails, Among, Passed, first_cases}
+use Rattle.history.proofs.Worlds.{first_cases}
+use Rattle.promises.specs.Firsts.{FirstFails, Among, Passed}
 use Rattle.promises.proofs.Firsts.{first-among, all_among, among_also, exactly, after-tests, by_tests}
 use Rattle.promises.specs.Stops.{add_stops, step_stops, end_stops, MessageStops, Over, over_none}
 use Rattle.promises.proofs.Stopping.{joins-refuses, step-refuses, end_refuses, end_among, step-among}

@@ -2,7 +2,7 @@
 pub mod Unique
 pub mod Replies
 pub mod Firsts
-pub mod Reads
+pub mod PickReads
 pub mod Stopping
 pub mod Records
 pub mod Given

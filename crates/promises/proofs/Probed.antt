@@ -1,7 +1,7 @@
 -- NOBODY IS LEFT UNPROBED, of the program's own pings: in a stretch of a run of its calls in which nobody comes or goes and no ping request runs, 2n − 1 pings reach each of n peers,
 -- each by a letter that one of the calls answered with.
 -- Assumes nothing.
-use Rattle.std.specs.Prelude.{◌≡◌, refl, ◌⊎◌, true, false, List, [], ◌∷◌, ◌++◌, map, ℕ, ◌+◌, ◌-◌, ◌*◌, ◌≤◌, length}
+use Rattle.std.specs.Prelude.{◌≡◌, refl, true, false, List, [], ◌∷◌, ◌++◌, map, ℕ, ◌+◌, ◌-◌, ◌*◌, ◌≤◌, length}
 use Rattle.std.proofs.Common.{ap, sym, ◌∙◌, subst, inl, inr, ⊎_elim}
 use Rattle.std.proofs.Math.Option.{none, some}
 use Rattle.address.specs.Here.{Addr, here, here_lawful}

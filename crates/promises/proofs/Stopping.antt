@@ -33,7 +33,7 @@ use Rattle.model.specs.Calls as calls
 use Rattle.promises.specs.Firsts.{FirstFails, Among, fails, Refuses, halts, goes}
 use Rattle.promises.proofs.Firsts.{exactly, untested, tested, then}
 use Rattle.promises.specs.Reads.{pick_reads}
-use Rattle.promises.proofs.Reads.{pick_reading, reading_refuses}
+use Rattle.promises.proofs.PickReads.{pick_reading, reading_refuses}
 use Rattle.promises.specs.Stops.{plus_one_or0, at_end, nothing_wanted, list_full, held_in, heap_full, timers_full, add_stops, wants_stops, end_stops, item_stops, admit_stops, ping_reads, group_reads, step_stops}
 
 plus_some : (n m : ℕ) → M.one_added n ≡ some m → (leb last_number n ≡ false) × (n + 1 ≡ m)

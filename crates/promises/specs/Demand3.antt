@@ -1,7 +1,7 @@
 -- DEMAND 3, OF THE PROGRAM. Of every run of calls of `swim` from the node that creation or a restart handed back, with a fresh wait record at any tick, with any wait record that the host lends later, and of every
 -- address. The ledger is 01's, replayed from the inputs of creation or of the restart and the calls alone; the nodes and the rows are those that the program was handed back.
 -- Assumes nothing.
-use Rattle.std.specs.Prelude.{◌≡◌, List, [], ◌∷◌, ◌++◌, map, ℕ, suc, ◌+◌, length, drop}
+use Rattle.std.specs.Prelude.{◌≡◌, List, [], ◌∷◌, ◌++◌, map, ℕ, suc, length, drop}
 use Rattle.model.specs.Bounds.{Room}
 use Rattle.address.specs.Here.{Addr, here}
 use Rattle.model.specs.Words as W

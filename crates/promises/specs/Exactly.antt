@@ -1,6 +1,6 @@
 -- EXACTLY, 1 TO 5. A call of `swim` gives the number of one of these refusals exactly if its test is the first of the call's list that fails.
 -- Assumes nothing.
-use Rattle.std.specs.Prelude.{◌≡◌, ◌↔◌, Bool, List, [], ℕ}
+use Rattle.std.specs.Prelude.{◌≡◌, ◌↔◌, Bool, List, ℕ}
 use Rattle.model.specs.declared.Refusal.{Refusal}
 use Rattle.model.specs.Answers.{number_of}
 use Rattle.promises.specs.Firsts.{FirstFails, Passed}

@@ -1,6 +1,6 @@
 -- EXISTENCE. Every call on every node has a result that meets its contract, and so has every list of calls, so that no theorem over results or runs is empty. With `Unique`: each call has exactly one.
 -- Assumes nothing.
-use Rattle.std.specs.Prelude.{List, [], map, ℕ, length}
+use Rattle.std.specs.Prelude.{List, map, ℕ, length}
 use Rattle.address.specs.Here.{Addr}
 use Rattle.history.specs.Histories.{Call, Add, Receive, Step, Timer, Lends}
 use Rattle.types.specs.declared.Gossip.{Gossip}

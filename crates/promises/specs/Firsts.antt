@@ -1,7 +1,6 @@
 -- THE FIRST TEST THAT FAILS. Calls and rules refuse by tests in an order: which refusal is given, and when none is.
 -- Assumes nothing.
 use Rattle.std.specs.Prelude.{◌≡◌, Bool, true, false, List, [], ◌∷◌, ℕ}
-use Rattle.std.proofs.Common.{arith}
 use Rattle.model.specs.declared.Refusal.{Refusal}
 use Rattle.model.specs.Answers.{Answer, done, refused}
 pub use Rattle.history.specs.Worlds.{Passed}

@@ -1,8 +1,7 @@
 -- WHAT A CALL GIVES: its tests in their order, then "already" or "not due", then what stops the rules. By the rules, for any type of address.
 -- Assumes nothing.
 use Rattle.std.proofs.Math.Path.{◌≡◌}
-use Rattle.std.proofs.Common.{arith}
-use Rattle.std.specs.Prelude.{◌↔◌, Bool, List, [], ℕ, ◌≤◌, ◌<◌}
+use Rattle.std.specs.Prelude.{◌↔◌, Bool, List, ℕ, ◌≤◌, ◌<◌}
 use Rattle.std.proofs.Math.Bool.{true}
 use Rattle.std.proofs.Math.Dec.{eqb}
 use Rattle.model.specs.declared.Refusal.{Refusal}

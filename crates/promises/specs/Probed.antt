@@ -1,7 +1,7 @@
 -- NOBODY IS LEFT UNPROBED, of the program's own pings: in a stretch of a run of its calls in which nobody comes or goes and no ping request runs, 2n − 1 pings reach each of n peers,
 -- each by a letter that one of the calls answered with.
 -- Assumes nothing.
-use Rattle.std.specs.Prelude.{◌⊎◌, List, [], ◌∷◌, ◌++◌, ◌+◌}
+use Rattle.std.specs.Prelude.{◌⊎◌, List, [], ◌∷◌, ◌++◌}
 use Rattle.address.specs.Here.{Addr}
 use Rattle.history.specs.Histories.{Call}
 use Rattle.types.specs.Views.{to_action}

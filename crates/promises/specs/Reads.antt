@@ -2,10 +2,9 @@
 -- Assumes nothing.
 use Rattle.std.specs.Prelude.{◌≡◌, Bool, eqb}
 use Rattle.std.proofs.Math.Bool.{true, false}
-use mathlib.Core.List.{List, []}
+use mathlib.Core.List.{List}
 use Rattle.std.proofs.Math.Option.{Option}
 use Prim.Native.Nat.{ℕ, zero, suc, ◌+◌, ◌-◌, ◌*◌, ◌%◌, ◌<◌}
-use Rattle.std.proofs.Common.{arith}
 use Rattle.std.proofs.Math.ListN.{length, get_or}
 use Rattle.model.specs.declared.Refusal.TheVariants.{DrawsShort}
 use Rattle.model.specs.Rows.{pick}

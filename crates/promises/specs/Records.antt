@@ -1,8 +1,7 @@
 -- AT WHICH RECORD A MESSAGE STOPS. For any type of address.
 -- Assumes nothing.
 use Rattle.std.specs.Prelude.{◌≡◌}
-use Rattle.std.proofs.Common.{arith}
-use mathlib.Core.List.{List, []}
+use mathlib.Core.List.{List}
 use Prim.Native.Nat.{ℕ}
 use Rattle.model.specs.declared.Cause.{Cause}
 use Rattle.model.specs.declared.Refusal.{Refusal}

@@ -1,7 +1,7 @@
 -- WHO IS REMEMBERED, OF THE PROGRAM. Of every run of calls of `swim` from the node that creation or a restart handed back: its row of the departed is what the removals of the run say,
 -- and with `remember` on an address that is in it is admitted only above every number at which it was removed since it last came into it.
 -- Assumes nothing.
-use Rattle.std.specs.Prelude.{List, [], ℕ}
+use Rattle.std.specs.Prelude.{List, ℕ}
 use Rattle.address.specs.Here.{Addr, here}
 use Rattle.history.specs.Moments.{Moment}
 use Rattle.history.specs.Beginnings.{Beginning}

@@ -1,7 +1,6 @@
 -- The kinds of reply are apart, and so are the numbers of the refusals.
 -- Assumes nothing.
 use Rattle.std.specs.Prelude.{ℕ}
-use Rattle.std.proofs.Common.{arith}
 use Rattle.model.specs.declared.Reply.{Reply}
 use Rattle.model.specs.declared.Reply.TheVariants.{Done, Already, NotDue, Refuted, Gone, Refused, RefusedAt}
 

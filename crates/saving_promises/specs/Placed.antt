@@ -1,7 +1,6 @@
 -- THE TABLE OF A RESTORED NODE STANDS IN THE IMAGE'S ORDER: `member_at` of its place i gives the record that stands at place i of the image, and as many are listed as the image's count says.
 -- Assumes nothing.
-use Rattle.std.specs.Prelude.{◌≡◌, List, [], ℕ, ◌+◌, ◌*◌, take, drop}
-use Rattle.std.proofs.Common.{arith}
+use Rattle.std.specs.Prelude.{◌≡◌, List, ℕ, ◌+◌, ◌*◌, take, drop}
 use Rattle.model.specs.declared.Settings.{Settings}
 use Rattle.model.specs.Words as W
 use Rattle.address.specs.Here.{Addr}

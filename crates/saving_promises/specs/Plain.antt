@@ -1,7 +1,6 @@
 -- REFUSALS 2 AND 12 OF `swim::save`, in plain words: the node isn't sound; it is, and its image is longer than the row. REFUSED, NOTHING IS WRITTEN.
 -- Assumes nothing.
-use Rattle.std.specs.Prelude.{List, [], ℕ}
-use Rattle.std.proofs.Common.{arith}
+use Rattle.std.specs.Prelude.{List, ℕ}
 use Rattle.model.specs.Node.{loaded}
 use Rattle.address.specs.Here.{here}
 use Rattle.node.specs.declared.Node.{Node}

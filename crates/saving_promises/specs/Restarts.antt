@@ -1,7 +1,6 @@
 -- RESTART WITH THE LIST WE HAD: one list has one image; what was saved is restored; what was restored is saved as the same bytes, and is sound. Of the calls.
 -- Assumes nothing.
 use Rattle.std.specs.Prelude.{◌≡◌, length, take}
-use Rattle.std.proofs.Common.{arith}
 use Rattle.std.proofs.Math.Bool.{true}
 use mathlib.Core.List.{List, []}
 use Prim.Native.Nat.{ℕ}
@@ -14,7 +13,6 @@ use Rattle.address.specs.Here.{Addr, here}
 use Rattle.node.specs.declared.Node.{Node}
 use Rattle.node.specs.Views.{stored_view}
 use Rattle.promises.specs.Made.{Accepted}
-use Rattle.numbers.specs.Codec.{number}
 use Rattle.image.specs.Image.{Saved}
 use Rattle.image.specs.Forms.{image_of, said_by}
 use Rattle.image.specs.Round.{Numbered}

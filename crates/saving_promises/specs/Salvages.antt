@@ -2,9 +2,8 @@
 -- restore takes, and so every result, stays as it is; each refusal exactly where the table says, and refused, nothing is written. Of the call.
 -- Assumes nothing.
 use Rattle.std.specs.Prelude.{◌≡◌, take, replicate}
-use Rattle.std.proofs.Common.{arith}
 use Rattle.std.proofs.Math.Bool.{true}
-use mathlib.Core.List.{List, []}
+use mathlib.Core.List.{List}
 use Prim.Native.Nat.{ℕ, min}
 use Rattle.std.proofs.Math.ListN.{length, drop}
 use Rattle.model.specs.Answers.{number_of}

@@ -2,7 +2,6 @@
 -- with the drops: 0 only where it is no place of what is left, or missing. Of the call, and of the node that restore makes of its result.
 -- Assumes nothing.
 use Rattle.std.specs.Prelude.{◌≡◌, Bool, true, false, get_or}
-use Rattle.std.proofs.Common.{arith}
 use mathlib.Core.List.{List, [], ◌∷◌, ◌++◌}
 use Prim.Native.Nat.{ℕ, zero, suc, ◌+◌, ◌*◌, min}
 use Rattle.model.specs.Rows.{pick}

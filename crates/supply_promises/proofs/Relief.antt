@@ -1,6 +1,6 @@
 -- NO NODE IS WEDGED, OF THE PROGRAM. Of every run of a program's calls of `swim`, whatever comes in between: with 2817 pings the alive heap had room at some time.
 -- Assumes nothing.
-use Rattle.std.specs.Prelude.{◌≡◌, refl, true, false, ◌&&◌, List, [], ◌+◌, ◌≤◌}
+use Rattle.std.specs.Prelude.{◌≡◌, refl, true, false, ◌&&◌, List, ◌+◌, ◌≤◌}
 use Rattle.std.proofs.Common.{ap, subst, ◌∙◌, arith}
 use Rattle.model.specs.declared.Reply.{Reply}
 use Rattle.model.specs.Rows.{one}

@@ -1,7 +1,6 @@
 -- NO NODE IS WEDGED, OF THE PROGRAM. Of every run of a program's calls of `swim`, whatever comes in between: with 2817 pings the alive heap had room at some time.
 -- Assumes nothing.
-use Rattle.std.specs.Prelude.{◌&&◌, List, [], ℕ, ◌+◌, ◌≤◌}
-use Rattle.std.proofs.Common.{arith}
+use Rattle.std.specs.Prelude.{◌&&◌, List, ℕ, ◌+◌, ◌≤◌}
 use Rattle.model.specs.Rows.{one}
 use Rattle.address.specs.Here.{Addr}
 use Rattle.history.specs.Histories.{Call, Add, Receive, Step, Timer, Lends}

@@ -1,7 +1,6 @@
 -- THE HANDLER ACTS AS THE REASON SAYS: what it stores and what it emits of one record, wherever it does not refuse. For any type of address.
 -- Assumes nothing.
 use Rattle.std.specs.Prelude.{List, [], ◌∷◌, ℕ, ◌+◌, get_or, drop}
-use Rattle.std.proofs.Common.{arith}
 use Rattle.std.proofs.Math.Option.{Option}
 use Rattle.model.specs.declared.Kind.{Kind}
 use Rattle.model.specs.declared.Kind.TheVariants as kind

@@ -1,8 +1,7 @@
 -- EXACTLY. The call gives each refusal exactly if its test is the first that fails, and each reason exactly if all are passed and its condition holds; with the reason come its numbers. For any type of address.
 -- Assumes nothing.
 use Rattle.std.proofs.Math.Path.{◌≡◌}
-use Rattle.std.proofs.Common.{arith}
-use Rattle.std.specs.Prelude.{Bool, List, [], ◌++◌, ℕ}
+use Rattle.std.specs.Prelude.{Bool, List, ◌++◌, ℕ}
 use Rattle.std.proofs.Math.Option.{Option, none, some}
 use Rattle.model.specs.declared.Refusal.{Refusal}
 use Rattle.model.specs.Rows.{pick}

@@ -1,7 +1,6 @@
 -- REFUSALS 2 AND 5 OF `swim::why`, in plain words: the node isn't sound; it is, and one of the event's two addresses is out of range.
 -- Assumes nothing.
 use Rattle.std.specs.Prelude.{Bool, true, ◌&&◌}
-use Rattle.std.proofs.Common.{arith}
 use Rattle.model.specs.Words.{Address, Event, Nothing, Joined, Recovered, Suspected, Deceased}
 
 module _ {A : Type 0} (address : Address A) where

@@ -1,7 +1,6 @@
 -- WHAT IS STORED BY `raised` AND `accepted`, in plain words: the address, its state and its number in the list after the record; of a death, that it is gone. For any type of address.
 -- Assumes nothing.
-use Rattle.std.specs.Prelude.{◌≡◌, false, List, [], ℕ}
-use Rattle.std.proofs.Common.{arith}
+use Rattle.std.specs.Prelude.{◌≡◌, false, List, ℕ}
 use Rattle.std.proofs.Math.Bool.{true}
 use Rattle.model.specs.declared.State.{State}
 use Rattle.model.specs.declared.State.TheVariants as state

@@ -1,7 +1,6 @@
 -- WHY, OF THE PROGRAM. Of any answer that meets the contract of `swim::why`, and of any result that meets that of `swim::receive` on the same node, with the same draws and that one record.
 -- Assumes nothing.
-use Rattle.std.specs.Prelude.{◌≡◌, List, [], ℕ, ◌-◌}
-use Rattle.std.proofs.Common.{arith}
+use Rattle.std.specs.Prelude.{◌≡◌, List, ℕ, ◌-◌}
 use Rattle.std.proofs.Math.Option.{some}
 use Rattle.std.proofs.Math.ListN.{length}
 use Rattle.model.specs.declared.Reply.TheVariants.{Done}
