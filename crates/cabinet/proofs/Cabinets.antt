@@ -1,6 +1,6 @@
 -- A cabinet: any number of controllers, each with its node and its wait record, and a network that may lose, delay, repeat, reorder and forge, but for the records of one topic.
 -- Assumes nothing.
-use Rattle.std.specs.Prelude.{◌≡◌, refl, List, [], ◌∷◌, ◌-◌}
+use Rattle.std.specs.Prelude.{◌≡◌, refl, List, [], ◌∷◌}
 use Rattle.std.proofs.Common.{ap, sym, subst}
 use Rattle.model.specs.Words.{Event, Nothing, Joined, Recovered, Suspected, Deceased, Gossip, Action, Message}
 use Rattle.cabinet.specs.Each.{nil, cons, Among, here, there}

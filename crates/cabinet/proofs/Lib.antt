@@ -2,6 +2,7 @@
 pub mod Each
 pub mod Heaps
 pub mod Cabinets
+pub mod Passing
 pub mod Rules
 pub mod Calls
 pub mod Picking

@@ -23,31 +23,13 @@ use Rattle.cabinet.specs.Each.{nil, cons}
 use Rattle.cabinet.proofs.Each.{each_append, each-one}
 use Rattle.cabinet.proofs.Heaps.{push-each, cleared-each, choose-each}
 use Rattle.cabinet.specs.Cabinets.{Topic, deaths, suspicions, About, InGossip, InMessages}
+use Rattle.cabinet.proofs.Passing.{joined_free, recovered_free, suspected-on, deceased-on}
 use Rattle.cabinet.specs.Rules.{Heaps, Holds, Told, Does, Spreads, StepDoes, OwnSuspicion, OwnDeath}
 
 -- of any answer
 pub any : {B : Type 0} (x : Answer B) → After (λ _. Unit {0}) x
 any (refused r) = halts
 any (done b ds) = gives tt
-
-module _ {A : Type 0} (P : A → ℕ → Type 0) where
-  -- records that are on neither topic
-  joined_free : (k : Topic) (f x : A) (n : ℕ) → About k P (Joined f x n)
-  joined_free deaths f x n = tt
-  joined_free suspicions f x n = tt
-
-  recovered_free : (k : Topic) (f x : A) (n : ℕ) → About k P (Recovered f x n)
-  recovered_free deaths f x n = tt
-  recovered_free suspicions f x n = tt
-
-  -- a record is passed on with its address and its number, whoever it is from
-  suspected-on : (k : Topic) (f g x : A) (n : ℕ) → About k P (Suspected f x n) → About k P (Suspected g x n)
-  suspected-on deaths f g x n p = tt
-  suspected-on suspicions f g x n p = p
-
-  deceased-on : (k : Topic) (f g x : A) (n : ℕ) → About k P (Deceased f x n) → About k P (Deceased g x n)
-  deceased-on deaths f g x n p = p
-  deceased-on suspicions f g x n p = tt
 
 module _ {A : Type 0} (address : Address A) (k : Topic) (P : A → ℕ → Type 0) where
   quiet-leaves : (s : Node A) (ds : List ℕ) → (Holds address k P) s → After (Told address k P) (quiet s ds)

@@ -1,6 +1,6 @@
 -- Each controller's part of a cabinet's history is a history of its own, in demand 3's sense, so that whatever holds of every history of one node holds of it.
 -- Assumes nothing.
-use Rattle.std.specs.Prelude.{◌≡◌, List, [], ◌∷◌, ◌++◌, ℕ, ◌+◌, eqb}
+use Rattle.std.specs.Prelude.{◌≡◌, List, [], ◌∷◌, ◌++◌, ℕ, eqb}
 use Rattle.std.proofs.Common.{sym, subst}
 use Rattle.model.specs.Rows.{pick}
 use Rattle.model.specs.Words.{Address, Lawful}

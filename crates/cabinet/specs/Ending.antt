@@ -1,7 +1,6 @@
 -- What a timer call did that reported a death, or after which an address is no longer listed.
 -- Assumes nothing.
 use Rattle.std.specs.Prelude.{◌≡◌, false}
-use Rattle.std.proofs.Common.{arith}
 use Rattle.std.proofs.Math.Bool.{true}
 use mathlib.Core.List.{List, [], ◌∷◌}
 use Rattle.std.proofs.Math.Option.{some}

@@ -1,7 +1,6 @@
 -- A heap's operations and the choosing of gossip make nothing up: what holds of each entry, whatever its sends, holds after them, and of each chosen gossip.
 -- Assumes nothing.
-use mathlib.Core.List.{List, []}
-use native.Mathlib.Omega.{arith}
+use mathlib.Core.List.{List}
 use Rattle.model.specs.Words.{Address, Gossip, Entry}
 use Rattle.model.specs.Choose.{Choice}
 use Rattle.cabinet.specs.Each.{Each}

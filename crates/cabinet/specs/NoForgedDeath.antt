@@ -3,8 +3,7 @@
 -- and whoever takes x off its list, does so after a timer call of some controller that reported exactly that death with a removal. And down to the probe: before it that
 -- controller, in one round of its wait record, pinged x, which it listed at n, found it silent, asked others, found it silent still, and declared it; then suspect_timeout went by.
 -- Assumes nothing.
-use Rattle.std.specs.Prelude.{List, [], ℕ}
-use Rattle.std.proofs.Common.{arith}
+use Rattle.std.specs.Prelude.{List, ℕ}
 use Rattle.model.specs.Words.{Address}
 use Rattle.history.specs.Histories.{World, Call, Add, Receive, Step, Timer, Lends}
 use Rattle.cabinet.specs.Each.{Among}

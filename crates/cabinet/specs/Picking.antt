@@ -1,9 +1,8 @@
 -- Whom a pick gives is listed, and neither the own address nor the one that is left out.
 -- Assumes nothing.
 use Rattle.std.specs.Prelude.{◌≡◌, Bool}
-use Rattle.std.proofs.Common.{arith}
 use Rattle.std.proofs.Math.Bool.{true, false}
-use mathlib.Core.List.{List, []}
+use mathlib.Core.List.{List}
 use Rattle.std.proofs.Math.Option.{Option}
 use Rattle.model.specs.Rows.{Test}
 use Rattle.model.specs.Words.{Member}

@@ -7,7 +7,7 @@ use Rattle.model.specs.Rows.{remove_at}
 use Rattle.model.specs.Words.{Address, Timer as Running, SendingPing, Declaring}
 use Rattle.model.specs.Node.{loaded}
 use Rattle.model.specs.Calls as calls
-use Rattle.history.specs.Histories.{World, Call, outcome}
+use Rattle.history.specs.Histories.{World, Call}
 use Rattle.cabinet.specs.Cabinets.{freed_by}
 use Rattle.cabinet.specs.Waiting.{Went}
 

@@ -1,14 +1,12 @@
 -- No rule makes up a record: for any P of an address and a number, if P holds of each record on the topic that a node holds and that it is told, it holds of each that the
 -- node then holds, sends and reports. Only the ping-request step says a suspicion of its own, and only an ended timer a death.
 -- Assumes nothing.
-use mathlib.Core.List.{[]}
 use Rattle.std.specs.Prelude.{ℕ}
 use Rattle.model.specs.declared.Fate.{Fate}
 use Rattle.model.specs.declared.Fate.TheVariants.{Leaves, Stays, Absent}
 use Rattle.model.specs.Answers.{Answer}
 use Rattle.model.specs.Words.{Address, Suspected, Deceased, Timer, WaitState, SendingPing, WaitingForPingAck, SendingPingReq, WaitingForPingReqAck, Declaring}
 use Rattle.model.specs.Node.{Disseminator, Node, Out, Effect, Spread}
-use Rattle.model.specs.Handler.{gossip}
 use Rattle.model.specs.Detector.{Stepped}
 use Rattle.laws.specs.After.{After}
 use Rattle.cabinet.specs.Cabinets.{Topic, About, InGossip, InHeap, InMessages}

@@ -1,8 +1,7 @@
 -- What stands in every honest history: each record on the topic that a controller holds, or that is on its way, has its cause; each timer that was started was declared; and
 -- each wait record came by the detector's states, in one round.
 -- Assumes nothing.
-use Rattle.std.specs.Prelude.{List, [], ℕ}
-use Rattle.std.proofs.Common.{arith}
+use Rattle.std.specs.Prelude.{List, ℕ}
 use Rattle.model.specs.Words.{Address, Lawful, Timer as Running, WaitState, SendingPing, WaitingForPingAck, SendingPingReq, WaitingForPingReqAck, Declaring}
 use Rattle.model.specs.Node.{loaded}
 use Rattle.history.specs.Histories.{World}

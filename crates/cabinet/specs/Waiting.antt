@@ -1,15 +1,14 @@
 -- How a call moves the wait record: by the detector's states, one at a time, each step when it is due; and which timer it starts.
 -- Assumes nothing.
 use Rattle.std.specs.Prelude.{◌≡◌, length}
-use Rattle.std.proofs.Common.{arith}
 use mathlib.Core.List.{List, [], ◌∷◌}
 use Rattle.std.proofs.Math.Option.{none}
 use Prim.Native.Nat.{ℕ}
 use Rattle.model.specs.Words.{Address, Suspected, Gossip, Ping, WaitState, SendingPing, WaitingForPingAck, SendingPingReq, WaitingForPingReqAck, Declaring}
 use Rattle.model.specs.Node.{loaded, numbered}
-use Rattle.model.specs.Detector.{enters, due}
+use Rattle.model.specs.Detector.{enters}
 use Rattle.model.specs.Calls.{StepOutcome}
-use Rattle.history.specs.Histories.{World, Call, outcome}
+use Rattle.history.specs.Histories.{World, Call}
 use Rattle.cabinet.specs.Each.{Each}
 use Rattle.cabinet.specs.Cabinets.{GoneBy, wait_in, StepAt, Silent, Peer, Request, asks_many}
 
