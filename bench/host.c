@@ -79,6 +79,7 @@ __attribute__((destructor)) static void end(void) {
 }
 
 // The kit's own C code for these is compiled for x86-64 alone.
+int rattle_errno(void) { return *__errno_location(); }
 void rattle_set_errno(int error) { *__errno_location() = error; }
 
 count rattle_arg_count(void) { return words_given; }
