@@ -9,19 +9,6 @@ NO = re.compile(r"(\./\S+\.antt):(\d+):(\d+): error: .*record `\S+` has no field
 OFF = re.compile(r"(\./\S+\.antt):(\d+):(\d+): error: .*?(?:expected type `[\w.]*?((?:Start|Else|Then|After|In|At|Joined)[^\s`]*) tie|where one has `lts\.(\S+)`)")
 
 
-def longer(line, col, by):
-    head, rest = line[: col - 1], line[col - 1 :]
-    m = re.match(r"\(?(\w+)((?:\.before)*)", rest)
-    if not m:
-        # The place may be named by its end.
-        return None
-    start, end = m.span(2)
-    steps = m[2].count(".before") + by
-    if steps < 0:
-        return None
-    return head + rest[:start] + ".before" * steps + rest[end:]
-
-
 for crate in sys.argv[1:]:
     crate, _, only = crate.partition(":")
     for _ in range(14 if only else 7):

@@ -12,7 +12,6 @@ import re
 import sys
 
 NAME = r"[^\s(){}\[\].;,@\"«»:]+"
-SIGN = re.compile(rf"^((?:(?:abbrev|pub|unfoldable|record|data|ruleset) )*)({NAME})( .*)? :(?: |$)|^((?:(?:abbrev|pub|unfoldable) )*)(record|data) ({NAME})(.*)$")
 
 
 class Decl:
